@@ -1,0 +1,61 @@
+-- The bench table holds, by computation: the list of the rows that do not show their numbers is empty.
+use Prim.Native.Nat.{ℕ, zero, suc, _+_}
+use mathlib.Core.Path.{_≡_, refl, ap, ap₂}
+use mathlib.Core.Bool.{Bool, true, false, _&&_, cond, false≢true}
+use mathlib.Core.List.{List, [], _∷_, _++_}
+use native.Mathlib.Omega.{arith}
+use borrow.Author.Tests.{eqb-true}
+use lib.Dec.{eqb}
+use Rattle.rules.specs.Types.{Event}
+use Rattle.rules.specs.Bench.{seen, isRead, isLoad, isSignal, bitRead, fates, moved, levels, held, rate, Sight, Case, table, AllShow, AllCases, none, next, Bench}
+use Rattle.rules.proofs.Open.{rules-open}
+
+alike : List ℕ → List ℕ → Bool
+alike [] [] = true
+alike [] (y ∷ ys) = false
+alike (x ∷ xs) [] = false
+alike (x ∷ xs) (y ∷ ys) = eqb x y && alike xs ys
+
+alike-equal : (xs ys : List ℕ) → alike xs ys ≡ true → xs ≡ ys
+unfolding alike
+alike-equal [] [] h = refl
+alike-equal [] (y ∷ ys) h = absurd (false≢true h)
+alike-equal (x ∷ xs) [] h = absurd (false≢true h)
+alike-equal (x ∷ xs) (y ∷ ys) h = go (eqb x y) refl h (alike-equal xs ys)
+  where
+    go : (t : Bool) → eqb x y ≡ t → t && alike xs ys ≡ true → (alike xs ys ≡ true → xs ≡ ys) → x ∷ xs ≡ y ∷ ys
+    go true e k r = ap₂ {C = List ℕ} (λ a l. a ∷ l) (eqb-true x y e) (r k)
+    go false e k r = absurd (false≢true k)
+
+showing : List Event → List Sight → Bool
+showing es [] = true
+showing es (x ∷ xs) = alike ((x .look) es) (x .numbers) && showing es xs
+
+all-true : List Case → Bool
+all-true [] = true
+all-true (c ∷ cs) = showing (c .session) (c .sights) && all-true cs
+
+and-both : (x y : Bool) → x && y ≡ true → (x ≡ true) × (y ≡ true)
+and-both true y h = (refl, h)
+and-both false y h = absurd (false≢true h)
+
+shown : (es : List Event) (xs : List Sight) → showing es xs ≡ true → AllShow es xs
+unfolding showing
+shown es [] h = none
+shown es (x ∷ xs) h =
+    let t = and-both (alike ((x .look) es) (x .numbers)) (showing es xs) h in
+    next (alike-equal _ _ (t .0)) (shown es xs (t .1))
+
+cases-shown : (cs : List Case) → all-true cs ≡ true → AllCases cs
+unfolding all-true
+cases-shown [] h = none
+cases-shown (c ∷ cs) h =
+    let t = and-both (showing (c .session) (c .sights)) (all-true cs) h in
+    next (shown (c .session) (c .sights) (t .0)) (cases-shown cs (t .1))
+
+table-true : all-true table ≡ true
+unfolding all-true showing alike table seen isRead isLoad isSignal bitRead fates moved levels held rate rules-open
+table-true = refl
+
+pub bench : Bench
+bench = cases-shown table table-true
