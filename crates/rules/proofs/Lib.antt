@@ -1,2 +1,7 @@
 pub mod Open
 pub mod Bench
+pub mod Choice
+pub mod Places
+pub mod Sizes
+pub mod Allowed
+pub mod Steps

@@ -16,3 +16,4 @@ pub mod Step
 pub mod Rates
 pub mod Session
 pub mod Bench
+pub mod Laws

@@ -1,0 +1,71 @@
+-- Choices by a test, and what tests joined by `&&`, `||`, `all` say of their parts.
+use mathlib.Core.Path.{_≡_, refl}
+use mathlib.Core.Bool.{Bool, true, false, not, _&&_, _||_, cond, true≢false, false≢true}
+use mathlib.Core.List.{List, [], _∷_}
+use Rattle.rules.specs.Bits.{all, onlyIf}
+
+-- ---- cond
+
+pub cases {ℓ κ} : {A : Type ℓ} (P : A → Type κ) (t : Bool) {x y : A} → (t ≡ true → P x) → (t ≡ false → P y) → P (cond t x y)
+cases P true f g = f refl
+cases P false f g = g refl
+
+pub either {ℓ κ} : {A : Type ℓ} (P : A → Type κ) (t : Bool) {x y : A} → P x → P y → P (cond t x y)
+either P true h k = h
+either P false h k = k
+
+pub cond-true {ℓ} : {A : Type ℓ} (t : Bool) (x y : A) → t ≡ true → cond t x y ≡ x
+cond-true t x y h = rw h
+
+pub cond-false {ℓ} : {A : Type ℓ} (t : Bool) (x y : A) → t ≡ false → cond t x y ≡ y
+cond-false t x y h = rw h
+
+-- ---- && and ||
+
+pub and-both : (x y : Bool) → x && y ≡ true → (x ≡ true) × (y ≡ true)
+and-both true y h = (refl, h)
+and-both false y h = absurd (false≢true h)
+
+pub both-and : (x y : Bool) → x ≡ true → y ≡ true → x && y ≡ true
+both-and x y h k = rw (h, k)
+
+pub or-neither : (x y : Bool) → x || y ≡ false → (x ≡ false) × (y ≡ false)
+or-neither true y h = absurd (true≢false h)
+or-neither false y h = (refl, h)
+
+pub neither-or : (x y : Bool) → x ≡ false → y ≡ false → x || y ≡ false
+neither-or x y h k = rw (h, k)
+
+-- ---- all and onlyIf, shut
+
+pub all-cons : (t : Bool) (ts : List Bool) → all (t ∷ ts) ≡ true → (t ≡ true) × (all ts ≡ true)
+unfolding all
+all-cons t ts h = and-both t (all ts) h
+
+pub cons-all : (t : Bool) (ts : List Bool) → t ≡ true → all ts ≡ true → all (t ∷ ts) ≡ true
+unfolding all
+cons-all t ts h k = both-and t (all ts) h k
+
+pub all-nil : all [] ≡ true
+unfolding all
+all-nil = refl
+
+pub onlyIf-to : (a b : Bool) → onlyIf a b ≡ true → a ≡ true → b ≡ true
+unfolding onlyIf
+onlyIf-to true b h k = h
+onlyIf-to false b h k = absurd (false≢true k)
+
+pub onlyIf-from : (a b : Bool) → (a ≡ true → b ≡ true) → onlyIf a b ≡ true
+unfolding onlyIf
+onlyIf-from true b f = f refl
+onlyIf-from false b f = refl
+
+pub not-and-to : (a b : Bool) → not (a && b) ≡ true → a ≡ true → b ≡ false
+not-and-to true true h k = absurd (false≢true h)
+not-and-to true false h k = refl
+not-and-to false b h k = absurd (false≢true k)
+
+pub not-and-from : (a b : Bool) → (a ≡ true → b ≡ false) → not (a && b) ≡ true
+not-and-from true true f = absurd (true≢false (f refl))
+not-and-from true false f = refl
+not-and-from false b f = refl

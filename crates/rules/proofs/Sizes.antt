@@ -1,0 +1,43 @@
+-- The active size is at most the depth and grows with both codes; what that says of a full buffer.
+use Prim.Native.Nat.{ℕ, zero, _*_, _^_, _≤_, _<_, min}
+use mathlib.Core.Path.{_≡_}
+use mathlib.Core.Bool.{false}
+use native.Mathlib.Omega.{arith}
+use borrow.Author.Tests.{leb-false, lt-leb}
+use lib.Pow.{pow-pos, pow-mono}
+use Rattle.rules.specs.Types.{Size}
+use Rattle.rules.specs.Record.{depthOf, activeSize}
+use Rattle.rules.specs.Flags.{isFull}
+
+pub depth-pos : (d : ℕ) → zero < depthOf d
+unfolding depthOf
+depth-pos d = omega (arith, pow-pos d)
+
+pub size-pos : (s : Size) → zero < activeSize s
+unfolding activeSize
+size-pos s = omega (arith, pow-pos (min (s .code) (s .fitted)))
+
+pub size-depth : (s : Size) → activeSize s ≤ depthOf (s .fitted)
+unfolding depthOf activeSize
+size-depth s = let h : 2 ^ min (s .code) (s .fitted) ≤ 2 ^ s .fitted = pow-mono (omega arith) in omega arith
+
+-- ---- Sizes of which neither code is lower
+
+infix 20 _⊑_
+pub record _⊑_ (s t : Size) : Type 0 where
+  pub fitted : s .fitted ≤ t .fitted
+  pub code : s .code ≤ t .code
+
+pub size-mono : (s t : Size) → s ⊑ t → activeSize s ≤ activeSize t
+unfolding activeSize
+size-mono s t h = let k : 2 ^ min (s .code) (s .fitted) ≤ 2 ^ min (t .code) (t .fitted) = pow-mono (omega arith) in omega arith
+
+-- ---- Full
+
+pub full-mono : (s t : Size) (n : ℕ) → s ⊑ t → isFull s n ≡ false → isFull t n ≡ false
+unfolding isFull
+full-mono s t n h e = lt-leb (activeSize t) n (omega (arith, leb-false (activeSize s) n e, size-mono s t h))
+
+pub full-room : (s : Size) (n : ℕ) → isFull s n ≡ false → n < depthOf (s .fitted)
+unfolding isFull
+full-room s n e = omega (arith, leb-false (activeSize s) n e, size-depth s)

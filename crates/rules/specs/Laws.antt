@@ -1,0 +1,13 @@
+-- The rules once more, in other words than the definitions: a wrong definition breaks one of these. Proofs are in proofs/.
+pub mod Soundness
+pub mod Refusals
+pub mod Refused
+pub mod Moved
+pub mod Frames
+pub mod Loads
+pub mod Places
+pub mod Initial
+pub mod Written
+pub mod Interrupts
+pub mod Rates
+pub mod Runs

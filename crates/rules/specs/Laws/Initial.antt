@@ -1,0 +1,60 @@
+-- What initialise and power-up leave: all eight readings for every kit, the levels, the stored values, the request.
+use Prim.Native.Nat.{ℕ, _+_, _*_}
+use mathlib.Core.Path.{_≡_}
+use mathlib.Core.Bool.{true, false}
+use mathlib.Core.List.{[]}
+use lib.ListN.{replicate}
+use Rattle.rules.specs.Types.{Settings, Options, Board, powerUp, write}
+use Rattle.rules.specs.Bits.{bit}
+use Rattle.rules.specs.Record.{State, stored}
+use Rattle.rules.specs.Parts.{noBurst}
+use Rattle.rules.specs.Registers.{readAt}
+use Rattle.rules.specs.Play.{optionsOf}
+use Rattle.rules.specs.Refusals.{refusal}
+use Rattle.rules.specs.Step.{step}
+
+-- 01: "Initialise: BCR 00000810h, mask of all fitted channels (000FFFFFh for kit 2), divisor 0064h, BOR 0000340Fh, 1Ch zero, empty
+-- buffer, all 20 levels 8000h, cursor 0, no burst, settling, calibration or "calibrated"."
+pub record Fresh (o : Options) (s : State) : Type 0 where
+  pub control : readAt (s .board) 0x00 ≡ 0x00000810
+  pub six : o .kit ≡ 0 → readAt (s .board) 0x04 ≡ 0x0000003F
+  pub twelve : o .kit ≡ 1 → readAt (s .board) 0x04 ≡ 0x00000FFF
+  pub twenty : o .kit ≡ 2 → readAt (s .board) 0x04 ≡ 0x000FFFFF
+  pub rate : readAt (s .board) 0x08 ≡ 0x00000064
+  pub buffer : readAt (s .board) 0x0C ≡ 0x0000340F
+  pub options : readAt (s .board) 0x10 ≡ o .firmware + 0x10000 * o .range + 0x40000 * o .filter + 0x100000 * o .kit
+  pub calibrationValues : readAt (s .board) 0x14 ≡ 0
+  pub outputData : readAt (s .board) 0x18 ≡ 0
+  pub adjust : readAt (s .board) 0x1C ≡ 0
+  pub empty : stored s ≡ []
+  pub levels : s .board .core .outputs .levels ≡ replicate 20 0x8000
+  pub cursor : s .board .core .outputs .cursor ≡ 0
+  pub burst : s .board .core .burst ≡ noBurst
+  pub settling : s .board .core .clock .settling ≡ false
+  pub calibrated : s .board .core .calibration .calibrated ≡ false
+  -- 01: "Initialise just sets it."
+  pub request : s .board .request ≡ true
+
+-- 01: "Power-up does the same."
+abbrev pub Power-up-fresh : Type 0
+Power-up-fresh =
+    (s : State) (x : Settings)
+    → refusal s (powerUp x) ≡ 0
+    → Fresh (optionsOf x) ((step s (powerUp x)) .state)
+
+-- 01: "A BCR write with D15 set initialises and ignores its other bits."
+abbrev pub Initialise-fresh : Type 0
+Initialise-fresh =
+    (s : State) (v : ℕ)
+    → refusal s (write 0x00 v) ≡ 0
+    → bit 15 v ≡ true
+    → Fresh (s .board .core .options) ((step s (write 0x00 v)) .state)
+
+-- What power-up fixed stays: the options, and the fitted code.
+abbrev pub Initialise-keeps : Type 0
+Initialise-keeps =
+    (s : State) (v : ℕ)
+    → refusal s (write 0x00 v) ≡ 0
+    → bit 15 v ≡ true
+    → ((step s (write 0x00 v)) .state .board .core .options ≡ s .board .core .options)
+    × ((step s (write 0x00 v)) .state .board .size ≡ record { fitted = s .board .size .fitted; code = 15 })

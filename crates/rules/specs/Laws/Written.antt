@@ -1,0 +1,173 @@
+-- What a write, a calibration's end and a settled event do: which bits are read back, which states follow, and what stays.
+--   wrote s o v      the state after the bus wrote v at the offset o
+--   ReadBack         a bit reads as it was written
+use Prim.Native.Nat.{ℕ, _%_, _^_}
+use mathlib.Core.Path.{_≡_}
+use mathlib.Core.Logic.{_≢_}
+use mathlib.Core.Bool.{Bool, true, false, not, _&&_}
+use mathlib.Core.List.{List, [], _∷_}
+use Rattle.rules.specs.Types.{Load, Board, Core, write, signal, passed, failed, settled}
+use Rattle.rules.specs.Bits.{bit}
+use Rattle.rules.specs.Record.{State, channels, stored as values}
+use Rattle.rules.specs.Parts.{noBurst, noLoad, withControl, withMode, withCalibration, withClock, withBurst, withLoad, withLost, withOutputs, withCursor}
+use Rattle.rules.specs.Registers.{readAt}
+use Rattle.rules.specs.Refusals.{refusal}
+use Rattle.rules.specs.Step.{step}
+
+abbrev pub wrote : State → ℕ → ℕ → State
+wrote s o v = (step s (write o v)) .state
+
+-- every bit that is listed reads, at the offset o of b, as it was written in v
+pub data ReadBack (b : Board) (o v : ℕ) : List ℕ → Type 0 where
+  none : ReadBack b o v []
+  next : {k : ℕ} {ks : List ℕ} → bit k (readAt b o) ≡ bit k v → ReadBack b o v ks → ReadBack b o v (k ∷ ks)
+
+-- ---- 00h, BCR
+
+pub record ControlWritten (s : State) (v : ℕ) (s′ : State) : Type 0 where
+  -- "store D0, D3 to D10"; "D13 = calibrating"
+  pub stored : ReadBack (s′ .board) 0x00 v (0 ∷ 3 ∷ 4 ∷ 5 ∷ 6 ∷ 7 ∷ 8 ∷ 9 ∷ 10 ∷ 13 ∷ [])
+  -- "Reserved bits read 0 and are ignored, BCR D12 too. BCR D15 .. read 0."
+  pub reserved : (bit 12 (readAt (s′ .board) 0x00) ≡ false) × (bit 15 (readAt (s′ .board) 0x00) ≡ false)
+  -- "D0 = 0 ends a burst"
+  pub ended : bit 0 v ≡ false → s′ .board .core .burst ≡ noBurst
+  -- "D2 = 1 with D0 set and no burst starts one"
+  pub started : bit 0 v ≡ true → bit 2 v ≡ true → s .board .core .burst .running ≡ false
+      → s′ .board .core .burst ≡ record { running = true; software = true }
+  pub goesOn : bit 0 v ≡ true → s .board .core .burst .running ≡ true → s′ .board .core .burst ≡ s .board .core .burst
+  pub unasked : bit 0 v ≡ true → bit 2 v ≡ false → s′ .board .core .burst ≡ s .board .core .burst
+  -- "changed D7 sets the cursor to 0"
+  pub turned : bit 7 v ≢ s .board .core .control .simultaneous → s′ .board .core .outputs .cursor ≡ 0
+  pub unturned : bit 7 v ≡ s .board .core .control .simultaneous → s′ .board .core .outputs .cursor ≡ s .board .core .outputs .cursor
+  -- "D13 = 1 starts calibration, clearing D14 and "calibrated""
+  pub calibrates : bit 13 v ≡ true → s′ .board .core .calibration ≡ record { running = true; failed = false; calibrated = false }
+  pub rests : bit 13 v ≡ false → s′ .board .core .calibration ≡ s .board .core .calibration
+  -- and no more: but for these the core is as it was, and so are size and stored values
+  pub rest : s′ .board .core
+      ≡ withControl (s′ .board .core .control)
+      (withBurst (s′ .board .core .burst)
+      (withCursor (s′ .board .core .outputs .cursor)
+      (withCalibration (s′ .board .core .calibration) (s .board .core))))
+  pub size : s′ .board .size ≡ s .board .size
+  pub ring : s′ .board .ring ≡ s .board .ring
+  pub memory : s′ .memory ≡ s .memory
+
+abbrev pub Control-written : Type 0
+Control-written =
+    (s : State) (v : ℕ)
+    → refusal s (write 0x00 v) ≡ 0
+    → bit 15 v ≡ false
+    → ControlWritten s v (wrote s 0x00 v)
+
+-- ---- 04h, 08h and 1Ch
+
+-- "04h keeps the bits of fitted channels and sets the cursor to 0."
+pub record MaskWritten (s : State) (v : ℕ) (s′ : State) : Type 0 where
+  pub stored : readAt (s′ .board) 0x04 ≡ v % 2 ^ channels (s .board .core .options .kit)
+  pub cursor : s′ .board .core .outputs .cursor ≡ 0
+  pub levels : s′ .board .core .outputs .levels ≡ s .board .core .outputs .levels
+  pub rest : s′ .board .core ≡ withOutputs (s′ .board .core .outputs) (s .board .core)
+
+abbrev pub Mask-written : Type 0
+Mask-written =
+    (s : State) (v : ℕ)
+    → refusal s (write 0x04 v) ≡ 0
+    → MaskWritten s v (wrote s 0x04 v)
+
+-- "08h keeps 16 bits."
+pub record RateWritten (s : State) (v : ℕ) (s′ : State) : Type 0 where
+  pub stored : readAt (s′ .board) 0x08 ≡ v % 0x10000
+  pub adjust : readAt (s′ .board) 0x1C ≡ readAt (s .board) 0x1C
+  pub settling : s′ .board .core .clock .settling ≡ s .board .core .clock .settling
+  pub rest : s′ .board .core ≡ withClock (s′ .board .core .clock) (s .board .core)
+
+abbrev pub Rate-written : Type 0
+Rate-written =
+    (s : State) (v : ℕ)
+    → refusal s (write 0x08 v) ≡ 0
+    → RateWritten s v (wrote s 0x08 v)
+
+-- "1Ch keeps Nclk (D8..0) and ALT (D9); a changed Nclk with EXTERNAL CLOCK set starts settling"
+pub record AdjustWritten (s : State) (v : ℕ) (s′ : State) : Type 0 where
+  pub stored : readAt (s′ .board) 0x1C ≡ v % 0x400
+  pub rate : readAt (s′ .board) 0x08 ≡ readAt (s .board) 0x08
+  pub starts : s .board .core .mode .external ≡ true → v % 0x200 ≢ s .board .core .clock .nclk → s′ .board .core .clock .settling ≡ true
+  pub same : v % 0x200 ≡ s .board .core .clock .nclk → s′ .board .core .clock .settling ≡ s .board .core .clock .settling
+  pub inner : s .board .core .mode .external ≡ false → s′ .board .core .clock .settling ≡ s .board .core .clock .settling
+  pub rest : s′ .board .core ≡ withClock (s′ .board .core .clock) (s .board .core)
+
+abbrev pub Adjust-written : Type 0
+Adjust-written =
+    (s : State) (v : ℕ)
+    → refusal s (write 0x1C v) ≡ 0
+    → AdjustWritten s v (wrote s 0x1C v)
+
+-- ---- 0Ch, BOR, without its software clock (that is Moved's Software-clock)
+
+pub record BufferWritten (s : State) (v : ℕ) (s′ : State) : Type 0 where
+  -- "store D0 to D5 and D8"
+  pub stored : ReadBack (s′ .board) 0x0C v (0 ∷ 1 ∷ 2 ∷ 3 ∷ 4 ∷ 5 ∷ 8 ∷ [])
+  -- "BOR D7 and D11 read 0"
+  pub reserved : (bit 7 (readAt (s′ .board) 0x0C) ≡ false) × (bit 11 (readAt (s′ .board) 0x0C) ≡ false)
+  -- "D16, D17 = 0 clear those flags, 1 leaves them"
+  pub overflow : bit 16 (readAt (s′ .board) 0x0C) ≡ bit 16 (readAt (s .board) 0x0C) && bit 16 v
+  pub overrun : bit 17 (readAt (s′ .board) 0x0C) ≡ bit 17 (readAt (s .board) 0x0C) && bit 17 v
+  -- "D8 = 0 drops pending and opened"
+  pub opens : bit 8 v ≡ false → s′ .board .core .load ≡ noLoad
+  -- "D11 = 1 empties, ends a burst, drops pending and opened and sets the cursor to 0"
+  pub empties : bit 11 v ≡ true → values s′ ≡ []
+  pub ends : bit 11 v ≡ true → s′ .board .core .burst ≡ noBurst
+  pub cursor : bit 11 v ≡ true → s′ .board .core .outputs .cursor ≡ 0
+  -- "if circular and not opened, pending = D9"
+  pub dropped : bit 8 v ≡ true → bit 11 v ≡ true → s′ .board .core .load ≡ record { pending = bit 9 v; opened = false }
+  pub asked : bit 8 v ≡ true → bit 11 v ≡ false → s .board .core .load .opened ≡ false
+      → s′ .board .core .load ≡ record { pending = bit 9 v; opened = false }
+  pub opened : bit 8 v ≡ true → bit 11 v ≡ false → s .board .core .load .opened ≡ true → s′ .board .core .load ≡ s .board .core .load
+  -- D11 = 0 leaves the stored values, the burst and the cursor
+  pub keeps : bit 11 v ≡ false → (s′ .board .ring ≡ s .board .ring)
+      × (s′ .board .core .burst ≡ s .board .core .burst)
+      × (s′ .board .core .outputs ≡ s .board .core .outputs)
+  pub memory : s′ .memory ≡ s .memory
+  pub rest : s′ .board .core
+      ≡ withMode (s′ .board .core .mode)
+      (withLost (s′ .board .core .lost)
+      (withLoad (s′ .board .core .load)
+      (withBurst (s′ .board .core .burst)
+      (withCursor (s′ .board .core .outputs .cursor) (s .board .core)))))
+
+abbrev pub Buffer-written : Type 0
+Buffer-written =
+    (s : State) (v : ℕ)
+    → refusal s (write 0x0C v) ≡ 0
+    → bit 7 v ≡ false
+    → BufferWritten s v (wrote s 0x0C v)
+
+-- ---- Calibration and settling
+
+-- 01: "A calibration end clears D13, sets "calibrated" and sets D14 on failure."
+abbrev pub Passed-calibrated : Type 0
+Passed-calibrated =
+    (s : State)
+    → refusal s (signal passed) ≡ 0
+    → (step s (signal passed)) .state .board .core
+    ≡ withCalibration (record { running = false; failed = s .board .core .calibration .failed; calibrated = true }) (s .board .core)
+
+abbrev pub Failed-calibrated : Type 0
+Failed-calibrated =
+    (s : State)
+    → refusal s (signal failed) ≡ 0
+    → (step s (signal failed)) .state .board .core
+    ≡ withCalibration (record { running = false; failed = true; calibrated = true }) (s .board .core)
+
+-- 01: settling "lasts until the settled event or initialise"
+abbrev pub Settled-clock : Type 0
+Settled-clock =
+    (s : State)
+    → refusal s (signal settled) ≡ 0
+    → (step s (signal settled)) .state .board .core
+    ≡ withClock (record {
+      divisor = s .board .core .clock .divisor;
+      nclk = s .board .core .clock .nclk;
+      alt = s .board .core .clock .alt;
+      settling = false;
+    }) (s .board .core)
