@@ -69,3 +69,13 @@ pub not-and-from : (a b : Bool) → (a ≡ true → b ≡ false) → not (a && b
 not-and-from true true f = absurd (true≢false (f refl))
 not-and-from true false f = refl
 not-and-from false b f = refl
+
+-- ---- A test that does not hold
+
+pub not-true : (t : Bool) → (t ≡ true → ⊥) → t ≡ false
+not-true true f = absurd (f refl)
+not-true false f = refl
+
+pub not-false : (t : Bool) → (t ≡ false → ⊥) → t ≡ true
+not-false true f = refl
+not-false false f = absurd (f refl)

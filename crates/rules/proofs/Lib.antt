@@ -5,3 +5,6 @@ pub mod Places
 pub mod Sizes
 pub mod Allowed
 pub mod Steps
+pub mod Masks
+pub mod Soundness
+pub mod Lasting

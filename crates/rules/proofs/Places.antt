@@ -4,7 +4,7 @@
 --   onList op l    what an operation makes of the values in order
 --   Allowed        the operations that a place allows
 use Prim.Native.Nat.{ℕ, zero, suc, _+_, _-_, _%_, _≤_, _<_}
-use mathlib.Core.Path.{_≡_, refl, sym, ap, ap₂, _∙_, _≡⟨_⟩_, _∎}
+use mathlib.Core.Path.{_≡_, refl, sym, ap, ap₂, _∙_}
 use mathlib.Core.Logic.{_≢_, _⊎_, inl, inr}
 use mathlib.Core.List.{List, [], _∷_, _++_, append-assoc, append-nil}
 use native.Mathlib.Nat.{mod-lt, mod-eq-of-lt, mod-add-mod, mod-mod, not-suc-le-zero, add-mod-right, add-zero, le-of-suc-le-suc}
@@ -13,7 +13,6 @@ use native.Mathlib.Numerals.{add-one}
 use native.Mathlib.Omega.{arith}
 use lib.ListN.{length, getD, set, take, drop, length-set}
 use lib.Seq.{getD-set-same, getD-set-other, drop-set-lt, drop-drop, drop-append-le, take-append-le}
-use Rattle.rules.specs.Types.{Ring}
 use Rattle.rules.specs.Record.{valueSpan, values}
 use Rattle.rules.specs.Clocks.{Op, keep, clear, store, leave, recirculate}
 use Rattle.rules.specs.Place.{Place, placeStore, placeLeave, placeAgain, times, place}

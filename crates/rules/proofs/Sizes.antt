@@ -1,5 +1,5 @@
 -- The active size is at most the depth and grows with both codes; what that says of a full buffer.
-use Prim.Native.Nat.{ℕ, zero, _*_, _^_, _≤_, _<_, min}
+use Prim.Native.Nat.{ℕ, zero, _^_, _≤_, _<_, min}
 use mathlib.Core.Path.{_≡_}
 use mathlib.Core.Bool.{false}
 use native.Mathlib.Omega.{arith}

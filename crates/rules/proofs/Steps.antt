@@ -1,26 +1,25 @@
 -- One event: refused, or done; and, done on a state whose values have their places, what is stored after it.
 --   Fit s        the values of s have their places, and its two codes are in range
 --   Kept s e     what is stored after the event e is done
-use Prim.Native.Nat.{ℕ, zero, _≤_}
-use mathlib.Core.Path.{_≡_, refl, sym, ap, _∙_}
+use Prim.Native.Nat.{ℕ, _≤_}
+use mathlib.Core.Path.{_≡_, refl, sym}
 use mathlib.Core.Logic.{_≢_}
 use mathlib.Core.Bool.{Bool, true, false, _&&_, cond}
-use mathlib.Core.List.{List}
 use native.Mathlib.Nat.{le-refl, le-of-eq}
 use native.Mathlib.Omega.{arith}
-use borrow.Author.Tests.{ltb-false, leb-true, le-leb, lt-ltb, ltb-true, le-ltb, eqb-true, ne-eqb}
-use lib.Dec.{leb, ltb, eqb}
+use borrow.Author.Tests.{leb-true, le-leb, lt-ltb, ltb-true, eqb-true}
+use lib.Dec.{eqb}
 use lib.ListN.{length}
-use Rattle.rules.specs.Types.{Settings, Size, Event, powerUp, write, read, signal}
+use Rattle.rules.specs.Types.{Size, Event, powerUp, write, read, signal}
 use Rattle.rules.specs.Bits.{bit}
-use Rattle.rules.specs.Record.{State, depthOf, depth, stored, soundRing}
+use Rattle.rules.specs.Record.{State, depth, stored, soundRing}
 use Rattle.rules.specs.Flags.{isFull}
 use Rattle.rules.specs.Size.{codeOf, sizeAfter}
-use Rattle.rules.specs.Place.{Place, place}
+use Rattle.rules.specs.Place.{Place}
 use Rattle.rules.specs.Refusals.{refusal}
 use Rattle.rules.specs.Step.{Outcome, refused, played, placed, boardBefore, done, step}
 use Rattle.rules.specs.Laws.Refusals.{Ordinary, Refusal-answered}
-use Rattle.rules.proofs.Choice.{cases, either, all-cons, cons-all, all-nil}
+use Rattle.rules.proofs.Choice.{either, all-cons, cons-all, all-nil}
 use Rattle.rules.proofs.Sizes.{depth-pos, full-room}
 use Rattle.rules.proofs.Places.{Good, Same, Placed, onList, placed-op, length-values}
 use Rattle.rules.proofs.Allowed.{play-allowed}

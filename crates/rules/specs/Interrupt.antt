@@ -1,5 +1,4 @@
 -- The interrupt request (manual 3.6, table 3.6-1; 01, the paragraph "Interrupt").
-use Prim.Native.Nat.{ℕ}
 use mathlib.Core.Bool.{Bool, true, false, not, _&&_, _||_, cond}
 use mathlib.Core.List.{List, [], _∷_}
 use lib.Dec.{eqb}

@@ -2,7 +2,7 @@
 --   withX x c    the core c with x for its part X
 --   noBurst, noLoad, noLoss    the states that an initialise leaves
 use Prim.Native.Nat.{ℕ}
-use mathlib.Core.Bool.{Bool, false}
+use mathlib.Core.Bool.{false}
 use Rattle.rules.specs.Types.{Control, Mode, Calibration, Clock, Burst, Load, Lost, Outputs, Core}
 
 abbrev pub noBurst : Burst

@@ -1,7 +1,7 @@
 -- The rate question (manual 3.4.3.1.2 and 3.10.1; 01, "Rate figures"). It asks a board record alone, and no memory.
 use Prim.Native.Nat.{ℕ, _+_, _*_, _/_}
-use mathlib.Core.Bool.{Bool, not, cond}
-use mathlib.Core.List.{List, [], _∷_}
+use mathlib.Core.Bool.{not, cond}
+use mathlib.Core.List.{[], _∷_}
 use lib.Dec.{eqb}
 use Rattle.rules.specs.Types.{Figures, Board, Clock}
 use Rattle.rules.specs.Record.{sound}

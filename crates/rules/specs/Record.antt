@@ -5,11 +5,11 @@
 --   sound b      01's list, clause by clause
 --   unpowered    the record that a run starts from
 use Prim.Native.Nat.{ℕ, zero, suc, _+_, _*_, _%_, _^_, min}
-use mathlib.Core.Bool.{Bool, true, false, not, _&&_, _||_, cond}
+use mathlib.Core.Bool.{Bool, false, not, _&&_, _||_, cond}
 use mathlib.Core.List.{List, [], _∷_}
 use lib.Dec.{leb, ltb, eqb}
 use lib.ListN.{getD, replicate}
-use Rattle.rules.specs.Types.{Settings, Options, Size, Core, Ring, Board}
+use Rattle.rules.specs.Types.{Options, Size, Core, Ring, Board}
 use Rattle.rules.specs.Bits.{all, onlyIf}
 
 pub record State : Type 0 where

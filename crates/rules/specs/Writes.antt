@@ -5,10 +5,10 @@
 -- The size code (BOR D00-D03) and the interrupt request (BCR D11) are no part of the core: Size.antt and Interrupt.antt.
 use Prim.Native.Nat.{ℕ, _/_, _%_, _^_, _-_}
 use mathlib.Core.Bool.{Bool, true, false, not, _&&_, _||_, cond}
-use mathlib.Core.List.{List, []}
+use mathlib.Core.List.{List}
 use lib.Dec.{eqb}
 use lib.ListN.{replicate}
-use Rattle.rules.specs.Types.{Options, Control, Mode, Calibration, Clock, Burst, Load, Lost, Core}
+use Rattle.rules.specs.Types.{Options, Control, Mode, Calibration, Burst, Load, Lost, Core}
 use Rattle.rules.specs.Bits.{bit}
 use Rattle.rules.specs.Record.{valueSpan, channels}
 use Rattle.rules.specs.Parts.{noBurst, noLoad, noLoss, withControl, withMode, withCalibration, withClock, withBurst, withLoad, withLost, withOutputs, withCursor}

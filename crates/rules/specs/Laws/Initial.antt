@@ -4,7 +4,7 @@ use mathlib.Core.Path.{_≡_}
 use mathlib.Core.Bool.{true, false}
 use mathlib.Core.List.{[]}
 use lib.ListN.{replicate}
-use Rattle.rules.specs.Types.{Settings, Options, Board, powerUp, write}
+use Rattle.rules.specs.Types.{Settings, Options, powerUp, write}
 use Rattle.rules.specs.Bits.{bit}
 use Rattle.rules.specs.Record.{State, stored}
 use Rattle.rules.specs.Parts.{noBurst}

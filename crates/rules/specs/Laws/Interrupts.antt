@@ -5,7 +5,7 @@ use mathlib.Core.Logic.{_≢_, _↔_}
 use mathlib.Core.Bool.{Bool, true, false}
 use mathlib.Core.List.{[]}
 use lib.ListN.{length}
-use Rattle.rules.specs.Types.{Settings, Event, powerUp, write, read, signal}
+use Rattle.rules.specs.Types.{Settings, Event, powerUp, write}
 use Rattle.rules.specs.Bits.{bit}
 use Rattle.rules.specs.Record.{State, stored, activeSize}
 use Rattle.rules.specs.Interrupt.{condition}

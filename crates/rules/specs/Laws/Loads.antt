@@ -1,9 +1,9 @@
 -- What becomes of a value written to 18h.
 use Prim.Native.Nat.{ℕ, _%_, _≤_, _<_}
 use mathlib.Core.Path.{_≡_}
-use mathlib.Core.Logic.{_≢_, _↔_}
+use mathlib.Core.Logic.{_↔_}
 use mathlib.Core.Bool.{true}
-use mathlib.Core.List.{List, [], _∷_, _++_}
+use mathlib.Core.List.{[], _∷_, _++_}
 use lib.ListN.{length}
 use Rattle.rules.specs.Types.{Event, powerUp, write, read, signal}
 use Rattle.rules.specs.Record.{State, stored, activeSize, valueSpan}

@@ -2,7 +2,7 @@
 --   Clocked x b      the signal x is a clock that b accepts
 --   groupSize b      the values that one clock of b moves if it moves any
 --   ReadyToMove s    it moves them
-use Prim.Native.Nat.{ℕ, zero, _+_, _%_, _≤_, _<_}
+use Prim.Native.Nat.{ℕ, _+_, _%_, _≤_, _<_}
 use mathlib.Core.Path.{_≡_}
 use mathlib.Core.Logic.{_≢_, _⊎_, _↔_}
 use mathlib.Core.Bool.{Bool, true, false, cond}

@@ -1,5 +1,5 @@
 -- Whole runs: a run's beginning is the run of its beginning, and after an accepted power-up no event is refused 2 or 3.
-use Prim.Native.Nat.{ℕ, _+_, _<_}
+use Prim.Native.Nat.{ℕ, _<_}
 use mathlib.Core.Path.{_≡_}
 use mathlib.Core.Logic.{_≢_}
 use mathlib.Core.List.{List, [], _∷_, _++_}

@@ -4,9 +4,9 @@
 use Prim.Native.Nat.{ℕ, _%_, _^_}
 use mathlib.Core.Path.{_≡_}
 use mathlib.Core.Logic.{_≢_}
-use mathlib.Core.Bool.{Bool, true, false, not, _&&_}
+use mathlib.Core.Bool.{true, false, _&&_}
 use mathlib.Core.List.{List, [], _∷_}
-use Rattle.rules.specs.Types.{Load, Board, Core, write, signal, passed, failed, settled}
+use Rattle.rules.specs.Types.{Board, write, signal, passed, failed, settled}
 use Rattle.rules.specs.Bits.{bit}
 use Rattle.rules.specs.Record.{State, channels, stored as values}
 use Rattle.rules.specs.Parts.{noBurst, noLoad, withControl, withMode, withCalibration, withClock, withBurst, withLoad, withLost, withOutputs, withCursor}
