@@ -7,6 +7,7 @@ use borrow.Author.Tests.{eqb-true}
 use lib.Dec.{eqb}
 use Rattle.rules.specs.Types.{Event}
 use Rattle.rules.specs.Bench.{seen, isRead, isLoad, isSignal, bitRead, fates, moved, levels, held, rate, Sight, Case, table, AllShow, AllCases, none, next, Bench}
+use Rattle.rules.proofs.Choice.{and-both}
 use Rattle.rules.proofs.Open.{rules-open}
 
 alike : List ℕ → List ℕ → Bool
@@ -33,10 +34,6 @@ showing es (x ∷ xs) = alike ((x .look) es) (x .numbers) && showing es xs
 all-true : List Case → Bool
 all-true [] = true
 all-true (c ∷ cs) = showing (c .session) (c .sights) && all-true cs
-
-and-both : (x y : Bool) → x && y ≡ true → (x ≡ true) × (y ≡ true)
-and-both true y h = (refl, h)
-and-both false y h = absurd (false≢true h)
 
 shown : (es : List Event) (xs : List Sight) → showing es xs ≡ true → AllShow es xs
 unfolding showing

@@ -1,7 +1,11 @@
 -- Choices by a test, and what tests joined by `&&`, `||`, `all` say of their parts.
+use Prim.Native.Nat.{ℕ, zero, suc, _<_}
 use mathlib.Core.Path.{_≡_, refl}
 use mathlib.Core.Bool.{Bool, true, false, not, _&&_, _||_, cond, true≢false, false≢true}
 use mathlib.Core.List.{List, [], _∷_}
+use native.Mathlib.Nat.{not-suc-le-zero}
+use native.Mathlib.Decide.{ℕ-discrete}
+use native.Mathlib.Omega.{arith}
 use Rattle.rules.specs.Bits.{all, onlyIf}
 
 -- ---- cond
@@ -19,6 +23,10 @@ cond-true t x y h = rw h
 
 pub cond-false {ℓ} : {A : Type ℓ} (t : Bool) (x y : A) → t ≡ false → cond t x y ≡ y
 cond-false t x y h = rw h
+
+pub cond-zero : (t : Bool) (k n : ℕ) → cond t (suc k) n ≡ 0 → (t ≡ false) × (n ≡ 0)
+cond-zero true k n h = absurd (omega arith)
+cond-zero false k n h = (refl, h)
 
 -- ---- && and ||
 
@@ -72,6 +80,14 @@ not-and-from false b f = refl
 
 -- ---- A test that does not hold
 
+pub not-both : (t : Bool) → not t ≡ true → t ≡ true → ⊥
+not-both true h k = false≢true h
+not-both false h k = false≢true k
+
+pub not-not : (t : Bool) → not t ≡ false → t ≡ true
+not-not true h = refl
+not-not false h = absurd (true≢false h)
+
 pub not-true : (t : Bool) → (t ≡ true → ⊥) → t ≡ false
 not-true true f = absurd (f refl)
 not-true false f = refl
@@ -79,3 +95,24 @@ not-true false f = refl
 pub not-false : (t : Bool) → (t ≡ false → ⊥) → t ≡ true
 not-false true f = refl
 not-false false f = absurd (f refl)
+
+pub or-cases {κ} : {C : Type κ} (x y : Bool) → x || y ≡ true → (x ≡ true → C) → (y ≡ true → C) → C
+or-cases true y h f g = f refl
+or-cases false y h f g = g h
+
+-- ---- A test of every number below n, by computation
+
+unfoldable pub upTo : ℕ → (ℕ → Bool) → Bool
+upTo zero f = true
+upTo (suc n) f = f n && upTo n f
+
+pub upTo-at : (n : ℕ) (f : ℕ → Bool) → upTo n f ≡ true → (k : ℕ) → k < n → f k ≡ true
+unfolding upTo
+upTo-at zero f h k l = absurd (not-suc-le-zero l)
+upTo-at (suc n) f h k l =
+    let t = and-both (f n) (upTo n f) h in
+    go (ℕ-discrete k n) (t .0) (upTo-at n f (t .1) k)
+  where
+    go : Dec (k ≡ n) → f n ≡ true → (k < n → f k ≡ true) → f k ≡ true
+    go (yes e) a b = rw e a
+    go (no d) a b = b (omega arith)

@@ -21,7 +21,7 @@ use Rattle.rules.specs.Refusals.{firstOf, inRange, tooShort, rows, refus
 use Rattle.rules.specs.Step.{refused, boardBefore, done}
 use Rattle.rules.specs.Laws.Soundness.{Stands, Stands-kept, Stands-given}
 use Rattle.rules.specs.Laws.Refusals.{Ordinary}
-use Rattle.rules.proofs.Choice.{cases, either, and-both}
+use Rattle.rules.proofs.Choice.{cond-zero, cases, either, and-both}
 use Rattle.rules.proofs.Sizes.{depth-pos}
 use Rattle.rules.proofs.Steps.{kept, step-done, step-cases, refusal-answered}
 use Rattle.rules.proofs.Soundness.{SoundOptions, SoundOutputs, SoundLoad, SoundBurst, SoundCore, options-to, sound-core, stands-fit, fit-stands}
@@ -287,10 +287,6 @@ done-stands s e o h =
     fit-stands ((done s e) .state) (play-sound (s .board .core) (stored s) _ e o (sound-core (s .board) (h .sound))) ((kept s e o (stands-fit s h)) .fit)
 
 -- ---- A power-up gives it
-
-cond-zero : (t : Bool) (k n : ℕ) → cond t (suc k) n ≡ 0 → (t ≡ false) × (n ≡ 0)
-cond-zero true k n h = absurd (omega arith)
-cond-zero false k n h = (refl, h)
 
 pub up-stands : (s : State) (x : Settings) → refusal s (powerUp x) ≡ 0 → Stands ((done s (powerUp x)) .state)
 unfolding refusal rows firstOf inRange tooShort done boardBefore play place sizeAfter

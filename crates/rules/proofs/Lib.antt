@@ -8,3 +8,4 @@ pub mod Steps
 pub mod Masks
 pub mod Soundness
 pub mod Lasting
+pub mod Refusals
