@@ -9,3 +9,8 @@ pub mod Masks
 pub mod Soundness
 pub mod Lasting
 pub mod Refusals
+pub mod FullOnly
+pub mod Lower
+pub mod TwoRuns
+pub mod Demand3
+pub mod Runs

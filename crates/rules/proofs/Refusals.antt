@@ -94,7 +94,7 @@ module _ (s : State) where
       cases (Given s (signal x)) (not (s .board .core .calibration .running)) (λ h. noCalibration w st (not-both _ h))
       (λ h. calibrationEnded w st (not-not _ h))
 
-  signal-to : (x : Signal) → Stands s → Given s (signal x) (cond (endsNothing s x) 7 0)
+  signal-to : (x : Signal) → Stands s → Given s (signal x) (cond (endsNothing (s .board .core) x) 7 0)
   unfolding endsNothing
   signal-to tick st = heard aTick st
   signal-to outside st = heard aClock st
@@ -159,13 +159,13 @@ module _ (s : State) where
   short-any (read a) o h l = short-second h l _
   short-any (signal x) o h l = short-second h l _
 
-  heard-none : (x : Signal) → Heard x → endsNothing s x ≡ false
+  heard-none : (x : Signal) → Heard x → endsNothing (s .board .core) x ≡ false
   unfolding endsNothing
   heard-none _ aTick = refl
   heard-none _ aClock = refl
   heard-none _ aTrigger = refl
 
-  ends-is : (x : Signal) → EndsCalibration x → endsNothing s x ≡ not (s .board .core .calibration .running)
+  ends-is : (x : Signal) → EndsCalibration x → endsNothing (s .board .core) x ≡ not (s .board .core .calibration .running)
   unfolding endsNothing
   ends-is _ aPass = refl
   ends-is _ aFailure = refl

@@ -17,3 +17,4 @@ pub mod Rates
 pub mod Session
 pub mod Bench
 pub mod Laws
+pub mod Demand3

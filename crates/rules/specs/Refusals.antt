@@ -6,7 +6,7 @@ use mathlib.Core.Bool.{Bool, false, not, _&&_, _||_, cond}
 use mathlib.Core.List.{List, [], _∷_}
 use lib.Dec.{leb, ltb, eqb}
 use lib.ListN.{length}
-use Rattle.rules.specs.Types.{Settings, Event, powerUp, write, read, signal, Signal, tick, outside, trigger, passed, failed, settled}
+use Rattle.rules.specs.Types.{Settings, Core, Event, powerUp, write, read, signal, Signal, tick, outside, trigger, passed, failed, settled}
 use Rattle.rules.specs.Record.{State, depthOf, depth, optionsInRange, sound}
 use Rattle.rules.specs.Registers.{isOffset}
 use Rattle.rules.specs.Play.{optionsOf}
@@ -38,13 +38,13 @@ unfoldable pub isReadOnly : ℕ → Bool
 isReadOnly o = eqb o 0x10 || eqb o 0x14
 
 -- "calibration end while none runs, or settled while not settling"
-unfoldable pub endsNothing : State → Signal → Bool
-endsNothing s tick = false
-endsNothing s outside = false
-endsNothing s trigger = false
-endsNothing s passed = not (s .board .core .calibration .running)
-endsNothing s failed = not (s .board .core .calibration .running)
-endsNothing s settled = not (s .board .core .clock .settling)
+unfoldable pub endsNothing : Core → Signal → Bool
+endsNothing c tick = false
+endsNothing c outside = false
+endsNothing c trigger = false
+endsNothing c passed = not (c .calibration .running)
+endsNothing c failed = not (c .calibration .running)
+endsNothing c settled = not (c .clock .settling)
 
 -- ---- The order
 
@@ -69,7 +69,7 @@ rows s (read o) =
 rows s (signal x) =
     3 when not (sound (s .board))
     ∷ 2 when tooShort (s .memory) (depth (s .board))
-    ∷ 7 when endsNothing s x
+    ∷ 7 when endsNothing (s .board .core) x
     ∷ []
 
 unfoldable pub refusal : State → Event → ℕ
