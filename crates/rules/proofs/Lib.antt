@@ -14,3 +14,4 @@ pub mod Lower
 pub mod TwoRuns
 pub mod Demand3
 pub mod Runs
+pub mod Examples

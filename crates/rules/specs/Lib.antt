@@ -18,3 +18,4 @@ pub mod Session
 pub mod Bench
 pub mod Laws
 pub mod Demand3
+pub mod Examples

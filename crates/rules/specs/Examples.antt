@@ -1,0 +1,73 @@
+-- Demand 3 at work: a pair of runs that meets every premise, and a pair that shows why a loss ends its promise.
+use Prim.Native.Nat.{ℕ, _+_}
+use mathlib.Core.Path.{_≡_}
+use mathlib.Core.Logic.{_≢_}
+use mathlib.Core.List.{List, [], _∷_}
+use lib.ListN.{length, replicate, take}
+use Rattle.rules.specs.Types.{Settings, Event, powerUp}
+use Rattle.rules.specs.Record.{State, activeSize, stored, start}
+use Rattle.rules.specs.Session.{after}
+use Rattle.rules.specs.Bench.{bcr, mask, bor, load, clk}
+use Rattle.rules.specs.Demand3.{AllNeverLower, PowerUpsAccepted, NothingLost, NoQuarters}
+
+abbrev pub settings : ℕ → Settings
+settings d = record { fitted = d; range = 0; filter = 0; kit = 2; firmware = 0 }
+
+abbrev pub fit : ℕ → Event
+fit d = powerUp (settings d)
+
+-- One session: d is the fitted code of its two power-ups, large and small are the size codes that it writes.
+abbrev pub script : ℕ → ℕ → ℕ → List Event
+script d large small =
+    fit d ∷ mask 1 ∷ bor (0x20 + large)
+    -- nine values in two frames
+    ∷ load 1 ∷ load 2 ∷ load 0x10003 ∷ load 4 ∷ load 5 ∷ load 6 ∷ load 7 ∷ load 8 ∷ load 0x10009
+    -- the size cut
+    ∷ bor (0x20 + small)
+    -- a burst that software starts; the first frame's EOF ends it
+    ∷ bcr 0x15 ∷ clk ∷ clk ∷ clk ∷ clk
+    -- back to continuous mode; the buffer closed, a load requested; the second frame turns once and opens it
+    ∷ bcr 0x10 ∷ bor (0x320 + small) ∷ clk ∷ clk ∷ clk ∷ clk ∷ clk ∷ clk
+    -- one new value is let in
+    ∷ load 0x1000A
+    -- and all begins anew
+    ∷ fit d ∷ bor (0x20 + small) ∷ load 11 ∷ clk ∷ []
+
+-- the first run: depth 16, sizes 16 and 8; the second: depth 64, sizes 64 and 16; over memories of other lengths and contents
+abbrev pub firstRun : List Event
+firstRun = script 1 1 0
+
+abbrev pub secondRun : List Event
+secondRun = script 3 15 1
+
+abbrev pub firstStart : State
+firstStart = start (replicate 16 0)
+
+abbrev pub secondStart : State
+secondStart = start (replicate 70 0xFFFFFFFF)
+
+-- It meets every premise, to its end; and it comes to the states that its comments name.
+pub record Demand3-met : Type 0 where
+  pub lower : AllNeverLower firstRun secondRun
+  pub accepted : PowerUpsAccepted firstStart firstRun
+  pub accepted′ : PowerUpsAccepted secondStart secondRun
+  pub lossless : NothingLost firstStart firstRun
+  pub unselected : NoQuarters firstStart firstRun
+  -- nine values in a buffer of size 8 after the cut
+  pub beyond : stored (after firstStart (take 13 firstRun)) ≡ 1 ∷ 2 ∷ 0x10003 ∷ 4 ∷ 5 ∷ 6 ∷ 7 ∷ 8 ∷ 0x10009 ∷ []
+  pub size : activeSize ((after firstStart (take 13 firstRun)) .board .size) ≡ 8
+  -- seven of eight after the load that was asked for
+  pub nearly : length (stored (after firstStart (take 27 firstRun))) ≡ 7
+
+-- The premise on losses is needed: here the first run loses its ninth value, and the stored values differ from then on.
+abbrev pub tooSmall : List Event
+tooSmall = fit 0 ∷ load 1 ∷ load 2 ∷ load 3 ∷ load 4 ∷ load 5 ∷ load 6 ∷ load 7 ∷ load 8 ∷ load 9 ∷ []
+
+abbrev pub largeEnough : List Event
+largeEnough = fit 1 ∷ load 1 ∷ load 2 ∷ load 3 ∷ load 4 ∷ load 5 ∷ load 6 ∷ load 7 ∷ load 8 ∷ load 9 ∷ []
+
+pub record Loss-matters : Type 0 where
+  pub lower : AllNeverLower tooSmall largeEnough
+  pub accepted : PowerUpsAccepted firstStart tooSmall
+  pub accepted′ : PowerUpsAccepted secondStart largeEnough
+  pub differ : stored (after firstStart tooSmall) ≢ stored (after secondStart largeEnough)
