@@ -15,3 +15,6 @@ pub mod TwoRuns
 pub mod Demand3
 pub mod Runs
 pub mod Examples
+pub mod States
+pub mod Rates
+pub mod Interrupts
