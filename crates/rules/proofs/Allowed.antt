@@ -7,7 +7,7 @@ use mathlib.Core.List.{List}
 use native.Mathlib.Nat.{mod-lt}
 use native.Mathlib.Omega.{arith}
 use borrow.Author.Tests.{ltb-false}
-use lib.Dec.{ltb, eqb}
+use lib.Dec.{ltb}
 use lib.ListN.{length}
 use Rattle.rules.specs.Types.{Core, Event, powerUp, write, read, signal, Signal, tick, outside, trigger, passed, failed, settled}
 use Rattle.rules.specs.Bits.{bit}
@@ -16,6 +16,7 @@ use Rattle.rules.specs.Writes.{writeControl, writeMask, writeRate, write
 use Rattle.rules.specs.Play.{calibrationEnds, settles, onSignal, play}
 use Rattle.rules.proofs.Choice.{cases, either, or-neither}
 use Rattle.rules.proofs.Places.{Allowed}
+use Rattle.rules.proofs.Offsets.{write-cases}
 
 pub moving-le : (c : Core) (buf : List ℕ) → moving c buf ≤ length buf
 unfolding moving
@@ -57,14 +58,9 @@ module _ (d n : ℕ) where
 
   write-lawful : (c : Core) (buf : List ℕ) (full : Bool) (o v : ℕ) → zero < d → length buf ≤ n → (full ≡ false → n < d)
       → Lawful (onWrite c buf full o v)
-  unfolding onWrite writeControl writeMask writeRate writeAdjust
+  unfolding writeControl writeMask writeRate writeAdjust
   write-lawful c buf full o v hd h hf =
-      either Lawful (eqb o 0x00) (either Lawful (bit 15 v) hd tt)
-      (either Lawful (eqb o 0x04) tt
-      (either Lawful (eqb o 0x08) tt
-      (either Lawful (eqb o 0x0C) (buffer-lawful c buf v hd h)
-      (either Lawful (eqb o 0x18) (data-lawful c full v hf)
-      tt))))
+      write-cases Lawful c buf full o v (λ _. hd) (λ _. tt) (λ _. tt) (λ _. tt) (λ _. buffer-lawful c buf v hd h) (λ _. data-lawful c full v hf) tt
 
   signal-lawful : (c : Core) (buf : List ℕ) (x : Signal) → length buf ≤ n → Lawful (onSignal c buf x)
   unfolding onSignal onTrigger calibrationEnds settles

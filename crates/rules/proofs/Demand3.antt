@@ -1,7 +1,7 @@
 -- Demand 3: a session that plays without loss plays the same on any larger buffer.
 use Prim.Native.Nat.{ℕ, zero, suc}
 use mathlib.Core.Path.{_≡_, refl, sym, ap, _∙_}
-use mathlib.Core.Bool.{true, false, false≢true}
+use mathlib.Core.Bool.{false≢true}
 use mathlib.Core.List.{List, [], _∷_}
 use native.Mathlib.Nat.{le-refl}
 use lib.ListN.{take}

@@ -1,16 +1,15 @@
 -- The examples of demand 3, by computation.
 use Prim.Native.Nat.{ℕ}
 use mathlib.Core.Path.{_≡_, refl, ap}
-use mathlib.Core.Bool.{Bool, true, false, not, _&&_}
+use mathlib.Core.Bool.{Bool, true, not, _&&_}
 use mathlib.Core.List.{List, [], _∷_}
 use native.Mathlib.Omega.{arith}
 use borrow.Author.Tests.{eqb-true, eqb-false, not-true}
 use lib.Dec.{eqb}
 use lib.ListN.{length}
 use Rattle.rules.specs.Types.{Event, powerUp, write, read, signal}
-use Rattle.rules.specs.Record.{State, stored}
+use Rattle.rules.specs.Record.{State}
 use Rattle.rules.specs.Step.{step}
-use Rattle.rules.specs.Session.{after}
 use Rattle.rules.specs.Demand3.{NeverLower, same, deeper, larger, AllNeverLower, none, next, PowerUpAccepted, PowerUpsAccepted, NothingLost, NoQuarter, NoQuarters}
 use Rattle.rules.specs.Examples.{settings, firstRun, secondRun, firstStart, secondStart, tooSmall, largeEnough, Demand3-met, Loss-matters}
 use Rattle.rules.proofs.Choice.{and-both}

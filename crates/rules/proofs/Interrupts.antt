@@ -1,25 +1,22 @@
 -- The interrupt request follows the edges of the selected condition.
-use Prim.Native.Nat.{ℕ, zero, suc, _*_, _<_}
+use Prim.Native.Nat.{ℕ, zero, suc, _*_}
 use mathlib.Core.Path.{_≡_, refl, sym, ap, _∙_, subst}
-use mathlib.Core.Logic.{_≢_, _↔_}
-use mathlib.Core.Bool.{Bool, true, false, not, _&&_, _||_, cond, true≢false, false≢true}
+use mathlib.Core.Logic.{_↔_}
+use mathlib.Core.Bool.{Bool, true, false, not, _&&_, _||_, true≢false, false≢true}
 use mathlib.Core.List.{List, [], _∷_}
 use native.Mathlib.Omega.{arith}
-use borrow.Author.Tests.{ltb-true, lt-ltb, eqb-true, eqb-false, eq-eqb, ne-eqb}
-use lib.Dec.{ltb, eqb}
+use borrow.Author.Tests.{ltb-true, lt-ltb, eqb-true, eq-eqb, ne-eqb}
+use lib.Dec.{eqb}
 use lib.ListN.{length, getD}
 use Rattle.rules.specs.Types.{Board, Event, powerUp, write, read, signal}
 use Rattle.rules.specs.Bits.{bit}
-use Rattle.rules.specs.Record.{State, values, stored, activeSize}
-use Rattle.rules.specs.Clocks.{closed, burstReady}
+use Rattle.rules.specs.Record.{State, stored, activeSize}
 use Rattle.rules.specs.Flags.{isEmpty, isLow, isHigh}
 use Rattle.rules.specs.Size.{initialises}
 use Rattle.rules.specs.Interrupt.{conditions, condition, requestHeld, edge, requestAfter}
-use Rattle.rules.specs.Refusals.{refusal}
-use Rattle.rules.specs.Step.{withRequest, boardBefore, done, step}
-use Rattle.rules.specs.Laws.Moved.{Closed}
+use Rattle.rules.specs.Step.{withRequest, boardBefore, done}
 use Rattle.rules.specs.Laws.Interrupts.{selected, Condition, calibrated, empty, low, high, burst, loadReady, notLoadReady, Initialises, up, set, Clears, clears, Held, Condition-exactly, Request-initialised, Edge, Request-edge}
-use Rattle.rules.proofs.Choice.{not-true, not-both, not-not}
+use Rattle.rules.proofs.Choice.{not-true, not-both}
 use Rattle.rules.proofs.States.{closed-exactly, closed-not, burst-ready-exactly}
 use Rattle.rules.proofs.Steps.{step-done, stored-length}
 

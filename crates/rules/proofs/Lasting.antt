@@ -6,7 +6,7 @@ use mathlib.Core.List.{List, [], _∷_, _++_}
 use native.Mathlib.Nat.{mod-lt}
 use native.Mathlib.Omega.{arith}
 use borrow.Author.Tests.{ltb-false, leb-true, not-false}
-use lib.Dec.{leb, eqb}
+use lib.Dec.{leb}
 use lib.Pow.{pow-pos}
 use Rattle.rules.specs.Types.{Settings, Options, Control, Mode, Calibration, Clock, Burst, Load, Lost, Outputs, Core, Event, powerUp, write, read, signal, Signal, tick, outside, trigger, passed, failed, settled}
 use Rattle.rules.specs.Bits.{bit, active, activeFrom, headOr}
@@ -23,6 +23,7 @@ use Rattle.rules.specs.Laws.Soundness.{Stands, Stands-kept, Stands-given
 use Rattle.rules.specs.Laws.Refusals.{Ordinary}
 use Rattle.rules.proofs.Choice.{cond-zero, cases, either, and-both}
 use Rattle.rules.proofs.Sizes.{depth-pos}
+use Rattle.rules.proofs.Offsets.{write-cases}
 use Rattle.rules.proofs.Steps.{kept, step-done, step-cases, refusal-answered}
 use Rattle.rules.proofs.Soundness.{SoundOptions, SoundOutputs, SoundLoad, SoundBurst, SoundCore, options-to, sound-core, stands-fit, fit-stands}
 
@@ -249,14 +250,16 @@ initial-sound o h =
     }
 
 write-sound : (c : Core) (buf : List ℕ) (full : Bool) (o v : ℕ) → SoundCore c → SoundPlay (onWrite c buf full o v)
-unfolding onWrite writeRate writeAdjust
+unfolding writeRate writeAdjust
 write-sound c buf full o v h =
-    either SoundPlay (eqb o 0x00) (either SoundPlay (bit 15 v) (initial-sound (c .options) (h .options)) (control-sound c v h))
-    (either SoundPlay (eqb o 0x04) (mask-sound c v h)
-    (either SoundPlay (eqb o 0x08) (clock-sound c _ h (h .nclk))
-    (either SoundPlay (eqb o 0x0C) (buffer-sound c buf v h)
-    (either SoundPlay (eqb o 0x18) (data-sound c full v h)
-    (clock-sound c _ h (omega arith))))))
+    write-cases SoundPlay c buf full o v
+    (λ _. initial-sound (c .options) (h .options))
+    (λ _. control-sound c v h)
+    (λ _. mask-sound c v h)
+    (λ _. clock-sound c _ h (h .nclk))
+    (λ _. buffer-sound c buf v h)
+    (λ _. data-sound c full v h)
+    (clock-sound c _ h (omega arith))
 
 -- ---- Every event keeps it
 

@@ -3,6 +3,7 @@ pub mod Bench
 pub mod Choice
 pub mod Places
 pub mod Sizes
+pub mod Offsets
 pub mod Allowed
 pub mod Steps
 pub mod Masks
@@ -18,3 +19,5 @@ pub mod Examples
 pub mod States
 pub mod Rates
 pub mod Interrupts
+pub mod Loads
+pub mod Memory

@@ -1,9 +1,7 @@
 -- The rate question: refused exactly as Laws/Rates says, and its figures rounded down.
-use Prim.Native.Nat.{ℕ, zero, suc, _+_, _*_, _/_, _%_, _≤_, _<_}
+use Prim.Native.Nat.{ℕ, zero, _+_, _*_, _/_, _%_, _<_}
 use mathlib.Core.Path.{_≡_, refl, sym, _∙_, subst}
-use mathlib.Core.Logic.{_≢_}
-use mathlib.Core.Bool.{Bool, true, false, not, cond}
-use mathlib.Core.List.{List, [], _∷_}
+use mathlib.Core.Bool.{true, false, not}
 use native.Mathlib.Nat.{div-add-mod', mod-lt, suc-mul}
 use native.Mathlib.Omega.{arith}
 use borrow.Author.Tests.{eqb-true, eqb-false, eq-eqb, ne-eqb}
@@ -12,7 +10,6 @@ use Rattle.rules.specs.Types.{Figures, Board}
 use Rattle.rules.specs.Record.{sound}
 use Rattle.rules.specs.Refusals.{firstOf}
 use Rattle.rules.specs.Rates.{referenceOf, wholeReference, sampleRate, rateRefusal, rates}
-use Rattle.rules.specs.Laws.Soundness.{Sound}
 use Rattle.rules.specs.Laws.Rates.{RateGiven, unsound, external, divisorZero, answered, Rate-exactly, Rate-refused, RoundedDown, RateFigures, Rate-figures}
 use Rattle.rules.proofs.Choice.{cases, not-true, not-both, not-not}
 use Rattle.rules.proofs.Soundness.{sound-exactly}

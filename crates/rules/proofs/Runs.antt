@@ -1,17 +1,16 @@
 -- Runs: their beginnings, and that after an accepted power-up none is stopped by 2 or 3.
 use Prim.Native.Nat.{ℕ, zero, suc, _<_}
-use mathlib.Core.Path.{_≡_, refl, sym, ap, _∙_, subst}
-use mathlib.Core.Logic.{_≢_}
-use mathlib.Core.List.{List, [], _∷_, _++_}
+use mathlib.Core.Path.{_≡_, refl, sym, ap, _∙_}
+use mathlib.Core.List.{List, [], _∷_}
 use native.Mathlib.Omega.{arith}
-use lib.ListN.{length, take}
+use lib.ListN.{length}
 use Rattle.rules.specs.Types.{Settings, Event, powerUp, write, read, signal}
 use Rattle.rules.specs.Record.{State, depthOf}
 use Rattle.rules.specs.Refusals.{refusal}
 use Rattle.rules.specs.Step.{Outcome, step}
 use Rattle.rules.specs.Session.{outcomes, after}
 use Rattle.rules.specs.Laws.Soundness.{Stands}
-use Rattle.rules.specs.Laws.Refusals.{Ordinary, Given, badSetting, shortForPowerUp, short, unsound, noSuchWrite, noSuchRead, readOnly, calibrating, noCalibration, notSettling, poweredUp, written, readOut, heard, calibrationEnded, hasSettled}
+use Rattle.rules.specs.Laws.Refusals.{Ordinary, Given, shortForPowerUp, short, unsound}
 use Rattle.rules.specs.Laws.Runs.{After-append, Outcomes-append, Outcomes-take, NeverStopped, AllNeverStopped, Run-never-stopped}
 use Rattle.rules.proofs.Steps.{refusal-answered}
 use Rattle.rules.proofs.Lasting.{stands-kept, stands-given}

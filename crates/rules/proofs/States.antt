@@ -1,7 +1,7 @@
 -- The states that rules look at, as facts: closed, and the numbers of the stored list.
-use mathlib.Core.Path.{_≡_, refl, sym, _∙_}
+use mathlib.Core.Path.{_≡_, sym, _∙_}
 use mathlib.Core.Logic.{_↔_}
-use mathlib.Core.Bool.{Bool, true, false, not, _&&_, true≢false}
+use mathlib.Core.Bool.{Bool, true, false, not, true≢false}
 use Rattle.rules.specs.Types.{Core}
 use Rattle.rules.specs.Clocks.{closed, burstReady}
 use Rattle.rules.specs.Laws.Moved.{Closed}

@@ -4,16 +4,16 @@
 use Prim.Native.Nat.{ℕ, zero, suc, _≤_}
 use mathlib.Core.Path.{_≡_, refl, sym, ap, ap₂, _∙_, subst}
 use mathlib.Core.Logic.{_≢_}
-use mathlib.Core.Bool.{Bool, true, false, not, _&&_, _||_, cond, false≢true}
-use mathlib.Core.List.{List, []}
+use mathlib.Core.Bool.{Bool, true, false, not, cond}
+use mathlib.Core.List.{List}
 use native.Mathlib.Nat.{le-refl}
 use native.Mathlib.Omega.{arith}
 use borrow.Author.Tests.{le-ltb, eqb-true}
-use lib.Dec.{ltb, eqb}
+use lib.Dec.{eqb}
 use lib.ListN.{length, getD}
 use Rattle.rules.specs.Types.{Settings, Size, Core, Board, Event, powerUp, write, read, signal}
-use Rattle.rules.specs.Record.{State, depth, values, stored, soundCore, soundRing, sound}
-use Rattle.rules.specs.Clocks.{Play, Fate, none, stored as storedFate, lostToFull, lostToClosed, fateNumber}
+use Rattle.rules.specs.Record.{State, depth, values, stored, soundCore, sound}
+use Rattle.rules.specs.Clocks.{Play, Fate, lostToFull, fateNumber}
 use Rattle.rules.specs.Flags.{isFull}
 use Rattle.rules.specs.Registers.{isOffset}
 use Rattle.rules.specs.Play.{play}
