@@ -17,7 +17,7 @@ use Rattle.rules.specs.Writes.{initial, controlOf, burstOf, cursorOf, ca
 use Rattle.rules.specs.Play.{optionsOf, calibrationEnds, settles, onSignal, play}
 use Rattle.rules.specs.Place.{place}
 use Rattle.rules.specs.Size.{sizeAfter}
-use Rattle.rules.specs.Refusals.{firstOf, inRange, tooShort, rows, refusal}
+use Rattle.rules.specs.Refusals.{firstOf, inRange, tooShort, standing, rows, refusal}
 use Rattle.rules.specs.Step.{refused, boardBefore, done}
 use Rattle.rules.specs.Laws.Soundness.{Stands, Stands-kept, Stands-given}
 use Rattle.rules.specs.Laws.Refusals.{Ordinary}
@@ -292,7 +292,7 @@ done-stands s e o h =
 -- ---- A power-up gives it
 
 pub up-stands : (s : State) (x : Settings) → refusal s (powerUp x) ≡ 0 → Stands ((done s (powerUp x)) .state)
-unfolding refusal rows firstOf inRange tooShort done boardBefore play place sizeAfter
+unfolding refusal rows standing firstOf inRange tooShort done boardBefore play place sizeAfter
 up-stands s x h =
     let a = cond-zero (not (inRange x)) 0 _ h in
     let b = cond-zero (tooShort (s .memory) (depthOf (x .fitted))) 1 0 (a .1) in

@@ -12,7 +12,7 @@ use Rattle.rules.specs.Bits.{some}
 use Rattle.rules.specs.Record.{State, depthOf, depth, optionsInRange, sound}
 use Rattle.rules.specs.Registers.{registers, isOffset}
 use Rattle.rules.specs.Play.{optionsOf}
-use Rattle.rules.specs.Refusals.{firstOf, inRange, tooShort, isReadOnly, endsNothing, rows, refusal}
+use Rattle.rules.specs.Refusals.{firstOf, inRange, tooShort, isReadOnly, endsNothing, standing, rows, refusal}
 use Rattle.rules.specs.Laws.Soundness.{Sound, Stands}
 use Rattle.rules.specs.Laws.Refusals.{InRange, Offset, Ordinary, Heard, aTick, aClock, aTrigger, EndsCalibration, aPass, aFailure, Given, badSetting, shortForPowerUp, short, unsound, noSuchWrite, noSuchRead, readOnly, calibrating, noCalibration, notSettling, poweredUp, written, readOut, heard, calibrationEnded, hasSettled, Refusal-exactly}
 use Rattle.rules.proofs.Choice.{cond-zero, cases, and-both, both-and, or-neither, or-cases, not-true, not-both, not-not, upTo, upTo-at}
@@ -106,7 +106,7 @@ module _ (s : State) where
       (λ h. hasSettled st (not-not _ h))
 
   given : (e : Event) → Given s e (refusal s e)
-  unfolding refusal rows firstOf
+  unfolding refusal rows standing firstOf
   given (powerUp x) =
       cases (Given s (powerUp x)) (not (inRange x)) (λ h. badSetting (λ k. not-both (inRange x) h (range-from x k))) (λ h.
       let r = range-to x (not-not (inRange x) h) in
@@ -146,14 +146,14 @@ module _ (s : State) where
   short-second h l n = rw ((sound-exactly (s .board)) .1 h, lt-ltb _ _ l)
 
   unsound-any : (e : Event) → Ordinary e → ¬ Sound (s .board) → refusal s e ≡ 3
-  unfolding refusal rows firstOf
+  unfolding refusal rows standing firstOf
   unsound-any (powerUp x) o h = absurd o
   unsound-any (write a v) o h = unsound-first h _
   unsound-any (read a) o h = unsound-first h _
   unsound-any (signal x) o h = unsound-first h _
 
   short-any : (e : Event) → Ordinary e → Sound (s .board) → length (s .memory) < depth (s .board) → refusal s e ≡ 2
-  unfolding refusal rows firstOf
+  unfolding refusal rows standing firstOf
   short-any (powerUp x) o h l = absurd o
   short-any (write a v) o h l = short-second h l _
   short-any (read a) o h l = short-second h l _
@@ -171,7 +171,7 @@ module _ (s : State) where
   ends-is _ aFailure = refl
 
   number : {e : Event} {n : ℕ} → Given s e n → refusal s e ≡ n
-  unfolding refusal rows firstOf
+  unfolding refusal rows standing firstOf
   number (badSetting {x} h) = rw (not-true (inRange x) (λ k. h (range-to x k)))
   number (shortForPowerUp {x} h l) = unfold tooShort in rw (range-from x h, lt-ltb _ _ l)
   number (short {e} o h l) = short-any e o h l
@@ -202,7 +202,7 @@ zero-stands s n h =
     record { sound = (sound-exactly (s .board)) .0 (not-not _ (a .0)); enough = ltb-false _ _ (b .0) }
 
 pub refusal-stands : (s : State) (e : Event) → Ordinary e → refusal s e ≡ 0 → Stands s
-unfolding refusal rows firstOf
+unfolding refusal rows standing firstOf
 refusal-stands s (powerUp x) o h = absurd o
 refusal-stands s (write a v) o h = zero-stands s _ h
 refusal-stands s (read a) o h = zero-stands s _ h

@@ -20,7 +20,7 @@ use Rattle.rules.specs.Play.{play}
 use Rattle.rules.specs.Place.{place}
 use Rattle.rules.specs.Size.{initialises, sizeAfter}
 use Rattle.rules.specs.Interrupt.{conditions, condition, requestHeld, edge, requestAfter}
-use Rattle.rules.specs.Refusals.{firstOf, tooShort, isReadOnly, endsNothing, rows, refusal}
+use Rattle.rules.specs.Refusals.{firstOf, tooShort, isReadOnly, endsNothing, standing, rows, refusal}
 use Rattle.rules.specs.Step.{Outcome, refused, played, boardBefore, done, step}
 use Rattle.rules.specs.Laws.Refusals.{Ordinary}
 use Rattle.rules.specs.Demand3.{NeverLower, same, deeper, larger, PowerUpAccepted, NoQuarter}
@@ -42,7 +42,7 @@ own c (signal x) = cond (endsNothing c x) 7 0
 
 refusal-own : (s : State) (e : Event) → Ordinary e
     → refusal s e ≡ cond (not (sound (s .board))) 3 (cond (tooShort (s .memory) (depth (s .board))) 2 (own (s .board .core) e))
-unfolding refusal rows firstOf own
+unfolding refusal rows standing firstOf own
 refusal-own s (powerUp x) h = absurd h
 refusal-own s (write o v) h = refl
 refusal-own s (read o) h = refl

@@ -49,28 +49,14 @@ endsNothing c settled = not (c .clock .settling)
 -- ---- The order
 
 -- 01: "Order: power-up 1, 2 (any old record is accepted); other events 3, 2, 4, 5, 6, or 3, 2, 7"
+unfoldable pub standing : State → List Row → List Row
+standing s rest = 3 when not (sound (s .board)) ∷ 2 when tooShort (s .memory) (depth (s .board)) ∷ rest
+
 unfoldable pub rows : State → Event → List Row
-rows s (powerUp x) =
-    1 when not (inRange x)
-    ∷ 2 when tooShort (s .memory) (depthOf (x .fitted))
-    ∷ []
-rows s (write o v) =
-    3 when not (sound (s .board))
-    ∷ 2 when tooShort (s .memory) (depth (s .board))
-    ∷ 4 when not (isOffset o)
-    ∷ 5 when isReadOnly o
-    ∷ 6 when s .board .core .calibration .running
-    ∷ []
-rows s (read o) =
-    3 when not (sound (s .board))
-    ∷ 2 when tooShort (s .memory) (depth (s .board))
-    ∷ 4 when not (isOffset o)
-    ∷ []
-rows s (signal x) =
-    3 when not (sound (s .board))
-    ∷ 2 when tooShort (s .memory) (depth (s .board))
-    ∷ 7 when endsNothing (s .board .core) x
-    ∷ []
+rows s (powerUp x) = 1 when not (inRange x) ∷ 2 when tooShort (s .memory) (depthOf (x .fitted)) ∷ []
+rows s (write o v) = standing s (4 when not (isOffset o) ∷ 5 when isReadOnly o ∷ 6 when s .board .core .calibration .running ∷ [])
+rows s (read o) = standing s (4 when not (isOffset o) ∷ [])
+rows s (signal x) = standing s (7 when endsNothing (s .board .core) x ∷ [])
 
 unfoldable pub refusal : State → Event → ℕ
 refusal s e = firstOf (rows s e)
