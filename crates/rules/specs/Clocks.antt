@@ -46,11 +46,11 @@ only c = record { core = c; op = keep; moved = 0; fate = none }
 unfoldable pub closed : Core → Bool
 closed c = c .mode .circular && not (c .load .opened)
 
--- 01: "D6 reads EXTERNAL and neither settling nor calibrating"
+-- 01: "D6 reads EXTERNAL and neither settling nor calibrating". Reading: ALT and ENABLE CLOCK are no part of it (DECISIONS 13).
 unfoldable pub clockReady : Core → Bool
 clockReady c = c .mode .external && not (c .clock .settling) && not (c .calibration .running)
 
--- 01: "D1 = enabled and no burst"
+-- 01: "D1 = enabled and no burst". Reading: also while calibrating (DECISIONS 6).
 unfoldable pub burstReady : Core → Bool
 burstReady c = c .control .bursts && not (c .burst .running)
 
@@ -69,7 +69,8 @@ unfoldable pub idle : Core → Bool
 idle c = eqb (c .outputs .mask) 0 || burstReady c
 
 -- 01: "sequential mode moves one value, if any"; "Simultaneous mode moves as many values as the mask has ones, ascending, only if
--- that many are stored". The list of active channels is as long as the mask has ones (Laws/Moved).
+-- that many are stored". The list of active channels is as long as the mask has ones (Laws/Moved). Reading: no part of a group moves
+-- (DECISIONS 19).
 unfoldable pub moving : Core → List ℕ → ℕ
 moving c buf = cond (idle c || ltb (length buf) (length (targets c))) 0 (length (targets c))
 
@@ -79,7 +80,8 @@ cursorAfter c = cond (c .control .simultaneous) (c .outputs .cursor) (nextChanne
 
 -- ---- Levels
 
--- 01: "Offset binary makes the level equal the data; two's complement adds 8000h mod 10000h."
+-- 01: "Offset binary makes the level equal the data; two's complement adds 8000h mod 10000h." Reading: as the value leaves
+-- (DECISIONS 18).
 unfoldable pub coded : Bool → ℕ → ℕ
 coded binary v = cond binary (v % levelSpan) ((v % levelSpan + 0x8000) % levelSpan)
 
@@ -98,7 +100,8 @@ carriesEof vs = some (map (bit 16) vs)
 unfoldable pub burstEnds : List ℕ → ℕ → Bool
 burstEnds buf k = carriesEof (take k buf)
 
--- 01: "Then, if any carried EOF, once: a burst ends; opened becomes closed; else pending becomes opened."
+-- 01: "Then, if any carried EOF, once: a burst ends; opened becomes closed; else pending becomes opened." Reading: once a clock, not
+-- once a value (DECISIONS 14).
 unfoldable pub burstAfter : Bool → Burst → Burst
 burstAfter ends x = cond ends noBurst x
 
@@ -111,7 +114,7 @@ loadAfter ended x = cond ended (record { pending = false; opened = not (x .opene
 unfoldable pub outgoing : Core → ℕ → Op
 outgoing c k = cond (closed c) (recirculate k) (leave k)
 
--- k values move. A clock that moves nothing changes nothing, the cursor too (DECISIONS 3).
+-- k values move. A clock that moves nothing changes nothing, the cursor too (DECISIONS 10).
 unfoldable pub moves : Core → List ℕ → ℕ → Play
 moves c buf zero = only c
 moves c buf (suc k) =
@@ -133,7 +136,8 @@ clock c buf = moves c buf (moving c buf)
 
 -- ---- Which clocks and triggers are accepted
 
--- 01: "A generator tick is accepted when clocking is enabled and (EXTERNAL = 0 or ALT = 1)."
+-- 01: "A generator tick is accepted when clocking is enabled and (EXTERNAL = 0 or ALT = 1)." Reading: settling does not matter to it
+-- (DECISIONS 12).
 -- 01: "While calibrating, no clock or trigger is accepted."
 unfoldable pub tickAccepted : Core → Bool
 tickAccepted c = c .mode .enabled && (not (c .mode .external) || c .clock .alt) && not (c .calibration .running)
@@ -142,7 +146,8 @@ tickAccepted c = c .mode .enabled && (not (c .mode .external) || c .clock .alt) 
 unfoldable pub clockAccepted : Core → Bool
 clockAccepted c = c .mode .enabled && c .mode .external && not (c .clock .alt) && clockReady c
 
--- 01: "An outside trigger starts a burst when BCR D0 = 1, BCR D6 = 0, and there is no burst or calibration."
+-- 01: "An outside trigger starts a burst when BCR D0 = 1, BCR D6 = 0, and there is no burst or calibration." Reading: it needs no
+-- clock, data or mask (DECISIONS 5).
 unfoldable pub triggerAccepted : Core → Bool
 triggerAccepted c = c .control .bursts && not (c .control .barred) && not (c .burst .running) && not (c .calibration .running)
 

@@ -46,7 +46,7 @@ unfoldable pub edge : Bool → Bool → Bool → Bool
 edge before after q = cond before (cond after q false) (cond after true q)
 
 -- 01: "If an event leaves the selection unchanged, .. Initialise just sets it." b is the board before the event, b′ the one after it,
--- its request as D11 left it.
+-- its request as D11 left it. Reading: one edge an event, after the whole of it (DECISIONS 26, 27).
 unfoldable pub requestAfter : Event → Board → Board → Bool
 requestAfter e b b′ =
     cond (initialises e) true

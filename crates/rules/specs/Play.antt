@@ -11,7 +11,7 @@ use Rattle.rules.specs.Writes.{initialised, onWrite}
 abbrev pub optionsOf : Settings → Options
 optionsOf s = record { range = s .range; filter = s .filter; kit = s .kit; firmware = s .firmware }
 
--- 01: "A calibration end clears D13, sets "calibrated" and sets D14 on failure."
+-- 01: "A calibration end clears D13, sets "calibrated" and sets D14 on failure." Reading: a pass leaves D14 as it is (DECISIONS 25).
 unfoldable pub calibrationEnds : Core → Bool → Play
 calibrationEnds c failure =
     only (withCalibration (record {

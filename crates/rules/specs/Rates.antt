@@ -19,7 +19,7 @@ wholeReference k = cond (k .alt) (referenceOf (k .nclk)) 30000000
 unfoldable pub sampleRate : Clock → ℕ
 sampleRate k = cond (k .alt) (16000000 * (511 + k .nclk) / (511 * k .divisor)) (30000000 / k .divisor)
 
--- 01: "rate 3, 9, 8"
+-- 01: "rate 3, 9, 8". Reading: 9 whatever ALT is (DECISIONS 35).
 unfoldable pub rateRefusal : Board → ℕ
 rateRefusal b =
     firstOf (

@@ -48,7 +48,8 @@ endsNothing c settled = not (c .clock .settling)
 
 -- ---- The order
 
--- 01: "Order: power-up 1, 2 (any old record is accepted); other events 3, 2, 4, 5, 6, or 3, 2, 7"
+-- 01: "Order: power-up 1, 2 (any old record is accepted); other events 3, 2, 4, 5, 6, or 3, 2, 7". Reading: 2 at
+-- every event, reads too (DECISIONS 31).
 unfoldable pub standing : State → List Row → List Row
 standing s rest = 3 when not (sound (s .board)) ∷ 2 when tooShort (s .memory) (depth (s .board)) ∷ rest
 

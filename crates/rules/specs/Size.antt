@@ -12,7 +12,7 @@ initialises (write o v) = eqb o 0x00 && bit 15 v
 initialises (read o) = false
 initialises (signal s) = false
 
--- 01: BOR "store D0 to D5"; initialise's "BOR 0000340Fh" has 15 there
+-- 01: BOR "store D0 to D5"; initialise's "BOR 0000340Fh" has 15 there. Reading: kept as written, also above d (DECISIONS 21).
 unfoldable pub codeOf : Size → ℕ → ℕ → ℕ
 codeOf s o v = cond (eqb o 0x0C) (v % 16) (cond (eqb o 0x00 && bit 15 v) 15 (s .code))
 

@@ -101,7 +101,7 @@ writeRate c v =
     }) c)
 
 -- 01: "1Ch keeps Nclk (D8..0) and ALT (D9); a changed Nclk with EXTERNAL CLOCK set starts settling, which lasts until the settled
--- event or initialise."
+-- event or initialise." Reading: EXTERNAL at that moment, whatever comes after (DECISIONS 24).
 unfoldable pub writeAdjust : Core → ℕ → Play
 writeAdjust c v =
     only (withClock (record {
@@ -117,7 +117,7 @@ writeAdjust c v =
 unfoldable pub modeOf : ℕ → Mode
 modeOf v = record { external = bit 4 v; enabled = bit 5 v; circular = bit 8 v }
 
--- 01: "D16, D17 = 0 clear those flags, 1 leaves them"
+-- 01: "D16, D17 = 0 clear those flags, 1 leaves them". Reading: 1 never sets one (DECISIONS 22).
 unfoldable pub lostOf : ℕ → Lost → Lost
 lostOf v x = record { full = x .full && bit 16 v; closed = x .closed && bit 17 v }
 
@@ -125,7 +125,7 @@ lostOf v x = record { full = x .full && bit 16 v; closed = x .closed && bit 17 v
 unfoldable pub loadKept : ℕ → Load → Load
 loadKept v x = cond (bit 8 v && not (bit 11 v)) x noLoad
 
--- 01: "if circular and not opened, pending = D9"
+-- 01: "if circular and not opened, pending = D9". Reading: after the steps of D8 and D11 (DECISIONS 20).
 unfoldable pub loadAsked : ℕ → Load → Load
 loadAsked v x = cond (bit 8 v && not (x .opened)) (record { pending = bit 9 v; opened = x .opened }) x
 
@@ -138,11 +138,11 @@ bufferOf v c =
     (withBurst (cond (bit 11 v) noBurst (c .burst))
     (withCursor (cond (bit 11 v) 0 (c .outputs .cursor)) c))))
 
--- 01: "D7 = 1 tries a software clock"
+-- 01: "D7 = 1 tries a software clock". Reading: it sees the bits just written (DECISIONS 15).
 unfoldable pub tried : Bool → Core → List ℕ → Play
 tried asked c buf = cond asked (onOutside c buf) (only c)
 
--- 01: "D11 = 1 empties": the software clock then finds nothing stored, and moves nothing.
+-- 01: "D11 = 1 empties". Reading: the software clock then finds nothing stored, and moves nothing (DECISIONS 16).
 unfoldable pub writeBuffer : Core → List ℕ → ℕ → Play
 writeBuffer c buf v =
     cond (bit 11 v) (record { core = bufferOf v c; op = clear; moved = 0; fate = none }) (tried (bit 7 v) (bufferOf v c) buf)
