@@ -28,6 +28,11 @@ pub cond-zero : (t : Bool) (k n : ℕ) → cond t (suc k) n ≡ 0 → (t ≡ fal
 cond-zero true k n h = absurd (omega arith)
 cond-zero false k n h = (refl, h)
 
+-- a choice between the two values of a function is the function of the test
+pub cond-apply {ℓ} : {A : Type ℓ} (f : Bool → A) (t : Bool) → cond t (f true) (f false) ≡ f t
+cond-apply f true = refl
+cond-apply f false = refl
+
 -- ---- && and ||
 
 pub and-both : (x y : Bool) → x && y ≡ true → (x ≡ true) × (y ≡ true)

@@ -21,3 +21,9 @@ pub mod Rates
 pub mod Interrupts
 pub mod Loads
 pub mod Memory
+pub mod Readings
+pub mod Played
+pub mod Initial
+pub mod ControlWritten
+pub mod BufferWritten
+pub mod Written

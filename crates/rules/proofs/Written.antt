@@ -1,0 +1,77 @@
+-- Writes to 04h, 08h and 1Ch, a calibration's end and a settled event.
+use Prim.Native.Nat.{ℕ, _%_, _^_, _≤_, _<_}
+use mathlib.Core.Path.{refl, _∙_}
+use mathlib.Core.Bool.{and-false, or-true, or-false}
+use native.Mathlib.Nat.{mod-lt, mod-eq-of-lt, mod-mod, le-trans}
+use native.Mathlib.Omega.{arith}
+use borrow.Author.Tests.{eq-eqb, ne-eqb}
+use lib.Dec.{eqb}
+use lib.Pow.{pow-pos, pow-mono}
+use Rattle.rules.specs.Types.{write, signal, passed, failed, settled}
+use Rattle.rules.specs.Bits.{number}
+use Rattle.rules.specs.Record.{channels}
+use Rattle.rules.specs.Registers.{maskBits, rateBits, adjustBits, registers, readFrom}
+use Rattle.rules.specs.Writes.{writeMask, writeRate, writeAdjust, onWrite}
+use Rattle.rules.specs.Play.{calibrationEnds, settles, onSignal, play}
+use Rattle.rules.specs.Laws.Written.{MaskWritten, Mask-written, RateWritten, Rate-written, AdjustWritten, Adjust-written, Passed-calibrated, Failed-calibrated, Settled-clock}
+use Rattle.rules.proofs.Choice.{either}
+use Rattle.rules.proofs.Readings.{flag-bit, number-bitsOf, number-field}
+use Rattle.rules.proofs.Played.{played-after, step-core}
+
+-- ---- 04h
+
+channels-le : (kit : ℕ) → channels kit ≤ 20
+unfolding channels
+channels-le kit = either (λ (n : ℕ). n ≤ 20) (eqb kit 0) (omega arith) (either (λ (n : ℕ). n ≤ 20) (eqb kit 1) (omega arith) (omega arith))
+
+-- the mask of the fitted channels has no more than the register's 20 bits
+mask-fits : (kit v : ℕ) → v % 2 ^ channels kit < 2 ^ 20
+mask-fits kit v = le-trans (mod-lt v (pow-pos (channels kit))) (pow-mono (channels-le kit))
+
+pub mask-written : Mask-written
+unfolding play onWrite writeMask registers readFrom maskBits
+mask-written s v h =
+    played-after (MaskWritten s v) s (write 0x04 v) (writeMask (s .board .core) v) h refl (λ q.
+    record {
+      stored = number-bitsOf 20 _ ∙ mod-eq-of-lt (mask-fits (s .board .core .options .kit) v);
+      cursor = refl;
+      levels = refl;
+      rest = refl;
+    })
+
+-- ---- 08h
+
+pub rate-written : Rate-written
+unfolding play onWrite writeRate registers readFrom rateBits adjustBits
+rate-written s v h =
+    played-after (RateWritten s v) s (write 0x08 v) (writeRate (s .board .core) v) h refl (λ q.
+    record { stored = number-bitsOf 16 _ ∙ mod-mod v 0x10000; adjust = refl; settling = refl; rest = refl })
+
+-- ---- 1Ch
+
+pub adjust-written : Adjust-written
+unfolding play onWrite writeAdjust registers readFrom rateBits adjustBits number
+adjust-written s v h =
+    played-after (AdjustWritten s v) s (write 0x1C v) (writeAdjust (s .board .core) v) h refl (λ q.
+    record {
+      stored = rw (number-field 9 (v % 2 ^ 9), flag-bit 9 v) (omega arith);
+      rate = refl;
+      starts = λ a d. rw (a, ne-eqb (v % 0x200) (s .board .core .clock .nclk) d, or-true);
+      same = λ a. rw (eq-eqb (v % 0x200) (s .board .core .clock .nclk) a, and-false, or-false);
+      inner = λ a. rw (a, or-false);
+      rest = refl;
+    })
+
+-- ---- Calibration and settling
+
+pub passed-calibrated : Passed-calibrated
+unfolding play onSignal calibrationEnds
+passed-calibrated s h = step-core s (signal passed) h ∙ rw or-false
+
+pub failed-calibrated : Failed-calibrated
+unfolding play onSignal calibrationEnds
+failed-calibrated s h = step-core s (signal failed) h ∙ rw or-true
+
+pub settled-clock : Settled-clock
+unfolding play onSignal settles
+settled-clock s h = step-core s (signal settled) h
