@@ -5,7 +5,7 @@ use mathlib.Core.Bool.{Bool, false, _&&_, cond}
 use native.Mathlib.Omega.{arith}
 use Rattle.rules.specs.Types.{Core, write}
 use Rattle.rules.specs.Bits.{bit, bitsOf}
-use Rattle.rules.specs.Record.{State, depth, values, stored}
+use Rattle.rules.specs.Record.{State, depth}
 use Rattle.rules.specs.Clocks.{Op, keep, clear, none as noFate, Play}
 use Rattle.rules.specs.Registers.{bufferBits, registers, readFrom}
 use Rattle.rules.specs.Writes.{modeOf, lostOf, loadKept, loadAsked, bufferOf, tried, writeBuffer, onWrite}
@@ -28,7 +28,7 @@ unfolding play onWrite writeBuffer tried bufferPlay
 buffer-played s v e = rw e (cond-apply (λ t. bufferPlay t (bufferOf v (s .board .core))) (bit 11 v))
 
 buffer-after : (s : State) (v : ℕ) (q : Bool) → BufferWritten s v (afterPlay s (write 0x0C v) (bufferPlay (bit 11 v) (bufferOf v (s .board .core))) q)
-unfolding bufferPlay bufferOf modeOf lostOf loadKept loadAsked place sizeAfter codeOf registers readFrom bufferBits bitsOf values stored
+unfolding bufferPlay bufferOf modeOf lostOf loadKept loadAsked place sizeAfter codeOf registers readFrom bufferBits bitsOf
 buffer-after s v q =
     record {
       stored = next (bit-number _ 0 ∙ getD-low 4 0 v (omega arith))
@@ -40,14 +40,15 @@ buffer-after s v q =
           (next (bit-number _ 8) none))))));
       reserved = (bit-number _ 7, bit-number _ 11);
       overflow = bit-number _ 16 ∙ ap (λ (t : Bool). t && bit 16 v) (sym (bit-number (bufferBits (s .board)) 16));
-      overrun = bit-number _ 17 ∙ ap (λ (t : Bool). t && bit 17 v) (sym (bit-number (bufferBits (s .board)) 17));
-      opens = λ a. rw a;
+      frameOverflow = bit-number _ 17 ∙ ap (λ (t : Bool). t && bit 17 v) (sym (bit-number (bufferBits (s .board)) 17));
+      size = refl;
+      uncircled = λ a. rw a;
       empties = λ a. rw a;
       ends = λ a. rw a;
       cursor = λ a. rw a;
       dropped = λ a b. rw (a, b);
       asked = λ a b c. rw (a, b, c);
-      opened = λ a b c. rw (a, b, c);
+      alreadyOpened = λ a b c. rw (a, b, c);
       keeps = λ a. (rw a, rw a, rw a);
       memory = either (λ (o : Op). (place (depth (s .board)) o (placeOf s)) .memory ≡ s .memory) (bit 11 v) refl refl;
       rest = refl;

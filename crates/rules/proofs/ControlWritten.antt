@@ -61,11 +61,9 @@ control-after s v r e q =
       turned = cursor-turned _ (bit 7 v) _;
       unturned = cursor-unturned _ (bit 7 v) _;
       calibrates = λ a. rw a;
-      rests = λ a. rw a;
+      uncalibrated = λ a. rw a;
       rest = refl;
-      size = rw e;
-      ring = refl;
-      memory = refl;
+      room = record { size = rw e; ring = refl; memory = refl };
     }
 
 pub control-written : Control-written

@@ -19,7 +19,7 @@ use Rattle.rules.specs.Size.{initialises, codeOf, sizeAfter}
 use Rattle.rules.specs.Interrupt.{requestAfter}
 use Rattle.rules.specs.Refusals.{refusal}
 use Rattle.rules.specs.Step.{boardBefore, done, step}
-use Rattle.rules.specs.Laws.Initial.{Fresh, Power-up-fresh, Initialise-fresh, Initialise-keeps}
+use Rattle.rules.specs.Laws.Initial.{Fresh, Power-up-fresh, Initialise-fresh}
 use Rattle.rules.proofs.Sizes.{size-pos}
 use Rattle.rules.proofs.Soundness.{SoundOptions, sound-core}
 use Rattle.rules.proofs.Lasting.{up-stands}
@@ -63,7 +63,7 @@ options-read : (o : Options) (b : Board)
 unfolding registers readFrom optionBits number flag
 options-read o b h e = rw e (simp (append-assoc, number-field, number-bitsOf) (omega arith))
 
-fresh-fresh : (o : Options) (d : ℕ) (m : List ℕ) → SoundOptions o → Fresh o (fresh o d m)
+fresh-fresh : (o : Options) (d : ℕ) (m : List ℕ) → SoundOptions o → Fresh o d m (fresh o d m)
 unfolding fresh initial channels values stored registers readFrom controlBits maskBits rateBits bufferBits adjustBits closed clockReady burstReady isEmpty number bitsOf bit flag
 fresh-fresh o d m h =
     record {
@@ -73,16 +73,22 @@ fresh-fresh o d m h =
       twenty = λ e. rw e;
       rate = refl;
       buffer = rw (low-empty, high-empty, full-empty);
-      options = options-read o _ h refl;
-      calibrationValues = refl;
+      assembly = options-read o _ h refl;
+      autocal = refl;
       outputData = refl;
       adjust = refl;
-      empty = refl;
+      powered = refl;
+      options = refl;
+      size = refl;
+      divisor = refl;
       levels = refl;
       cursor = refl;
       burst = refl;
       settling = refl;
       calibrated = refl;
+      empty = refl;
+      ring = refl;
+      memory = refl;
       request = refl;
     }
 
@@ -115,7 +121,3 @@ pub initialise-fresh : Initialise-fresh
 initialise-fresh s v h e =
     rw (initialise-state s v h e)
     (fresh-fresh _ (s .board .size .fitted) (s .memory) (initialise-options s v h))
-
-pub initialise-keeps : Initialise-keeps
-unfolding fresh initial
-initialise-keeps s v h e = rw (initialise-state s v h e) (refl, refl)

@@ -27,3 +27,4 @@ pub mod Initial
 pub mod ControlWritten
 pub mod BufferWritten
 pub mod Written
+pub mod Registers

@@ -1,7 +1,7 @@
 -- The state after an event that is done, by what the rules make of the event.
 --   placeAfter s p       where the values of s stand after p
 --   afterPlay s e p q    s after an event e that the rules make p of, the request being q
-use mathlib.Core.Path.{_≡_, refl, ap, _∙_}
+use mathlib.Core.Path.{_≡_, ap, _∙_}
 use mathlib.Core.Bool.{Bool}
 use Rattle.rules.specs.Types.{Event}
 use Rattle.rules.specs.Record.{State, depth}
@@ -34,6 +34,3 @@ step-play s e p h k =
 pub played-after {κ} : (P : State → Type κ) (s : State) (e : Event) (p : Play) → refusal s e ≡ 0 → played s e ≡ p
     → ((q : Bool) → P (afterPlay s e p q)) → P ((step s e) .state)
 played-after P s e p h k f = rw (step-play s e p h k) (f _)
-
-pub step-core : (s : State) (e : Event) → refusal s e ≡ 0 → (step s e) .state .board .core ≡ (played s e) .core
-step-core s e h = ap (λ (x : State). x .board .core) (step-play s e (played s e) h refl)

@@ -17,7 +17,7 @@ use Rattle.rules.proofs.Masks.{bit-shift, bit-below}
 
 -- ---- A bit as a number
 
-flag-le : (b : Bool) → flag b ≤ 1
+pub flag-le : (b : Bool) → flag b ≤ 1
 unfolding flag
 flag-le true = omega arith
 flag-le false = omega arith

@@ -1,9 +1,9 @@
 -- The states that rules look at, as facts: closed, and the numbers of the stored list.
 use mathlib.Core.Path.{_≡_, sym, _∙_}
 use mathlib.Core.Logic.{_↔_}
-use mathlib.Core.Bool.{Bool, true, false, not, true≢false}
+use mathlib.Core.Bool.{Bool, true, false, not, _&&_, true≢false}
 use Rattle.rules.specs.Types.{Core}
-use Rattle.rules.specs.Clocks.{closed, burstReady}
+use Rattle.rules.specs.Clocks.{closed, clockReady, burstReady}
 use Rattle.rules.specs.Laws.Moved.{Closed}
 use Rattle.rules.proofs.Choice.{and-both, both-and, not-both, not-true}
 
@@ -27,4 +27,15 @@ unfolding burstReady
 burst-ready-exactly c = (
   λ h. let t = and-both (c .control .bursts) (not (c .burst .running)) h in (t .0, not-true _ (not-both _ (t .1))),
   λ h. both-and _ _ (h .0) (not-from _ (h .1)),
+)
+
+pub clock-ready-exactly : (c : Core)
+    → (clockReady c ≡ true) ↔ ((c .mode .external ≡ true) × (c .clock .settling ≡ false) × (c .calibration .running ≡ false))
+unfolding clockReady
+clock-ready-exactly c = (
+  λ h.
+      let t = and-both (c .mode .external && not (c .clock .settling)) (not (c .calibration .running)) h in
+      let u = and-both (c .mode .external) (not (c .clock .settling)) (t .0) in
+      (u .0, not-true _ (not-both _ (u .1)), not-true _ (not-both _ (t .1))),
+  λ h. both-and _ _ (both-and _ _ (h .0) (not-from _ (h .1))) (not-from _ (h .2)),
 )

@@ -6,6 +6,7 @@ pub mod Moved
 pub mod Frames
 pub mod Loads
 pub mod Places
+pub mod Readings
 pub mod Initial
 pub mod Written
 pub mod Interrupts

@@ -17,6 +17,12 @@ pub record Nothing (s : State) (o : Outcome) : Type 0 where
   pub fate : o .answer .fate ≡ 0
   pub state : o .state ≡ s
 
+-- sizes, places and memory are as they were
+pub record SameRoom (s s′ : State) : Type 0 where
+  pub size : s′ .board .size ≡ s .board .size
+  pub ring : s′ .board .ring ≡ s .board .ring
+  pub memory : s′ .memory ≡ s .memory
+
 -- ---- Acceptance
 
 -- 01: "A generator tick is accepted when clocking is enabled and (EXTERNAL = 0 or ALT = 1)."
@@ -73,10 +79,11 @@ Read-nothing =
     → refusal s (read o) ≡ 0
     → ((step s (read o)) .answer .register ≡ readAt (s .board) o) × ((step s (read o)) .state ≡ s)
 
--- An accepted trigger starts a burst that software did not start, and does nothing else to the core.
+-- An accepted trigger starts a burst that software did not start, and does nothing else but to the request.
 abbrev pub Trigger-starts : Type 0
 Trigger-starts =
     (s : State)
     → refusal s (signal trigger) ≡ 0
     → TriggerAccepted (s .board)
-    → (step s (signal trigger)) .state .board .core ≡ withBurst (record { running = true; software = false }) (s .board .core)
+    → ((step s (signal trigger)) .state .board .core ≡ withBurst (record { running = true; software = false }) (s .board .core))
+    × SameRoom s ((step s (signal trigger)) .state)

@@ -6,13 +6,14 @@ use mathlib.Core.Path.{_≡_}
 use mathlib.Core.Logic.{_≢_}
 use mathlib.Core.Bool.{true, false, _&&_}
 use mathlib.Core.List.{List, [], _∷_}
-use Rattle.rules.specs.Types.{Board, write, signal, passed, failed, settled}
+use Rattle.rules.specs.Types.{Board, Core, write, signal, passed, failed, settled}
 use Rattle.rules.specs.Bits.{bit}
-use Rattle.rules.specs.Record.{State, channels, stored as values}
+use Rattle.rules.specs.Record.{State, channels}
 use Rattle.rules.specs.Parts.{noBurst, noLoad, withControl, withMode, withCalibration, withClock, withBurst, withLoad, withLost, withOutputs, withCursor}
 use Rattle.rules.specs.Registers.{readAt}
 use Rattle.rules.specs.Refusals.{refusal}
 use Rattle.rules.specs.Step.{step}
+use Rattle.rules.specs.Laws.Refused.{SameRoom}
 
 abbrev pub wrote : State → ℕ → ℕ → State
 wrote s o v = (step s (write o v)) .state
@@ -41,16 +42,14 @@ pub record ControlWritten (s : State) (v : ℕ) (s′ : State) : Type 0 where
   pub unturned : bit 7 v ≡ s .board .core .control .simultaneous → s′ .board .core .outputs .cursor ≡ s .board .core .outputs .cursor
   -- "D13 = 1 starts calibration, clearing D14 and "calibrated""
   pub calibrates : bit 13 v ≡ true → s′ .board .core .calibration ≡ record { running = true; failed = false; calibrated = false }
-  pub rests : bit 13 v ≡ false → s′ .board .core .calibration ≡ s .board .core .calibration
-  -- and no more: but for these the core is as it was, and so are size and stored values
+  pub uncalibrated : bit 13 v ≡ false → s′ .board .core .calibration ≡ s .board .core .calibration
+  -- and no more: but for these the core is as it was
   pub rest : s′ .board .core
       ≡ withControl (s′ .board .core .control)
       (withBurst (s′ .board .core .burst)
       (withCursor (s′ .board .core .outputs .cursor)
       (withCalibration (s′ .board .core .calibration) (s .board .core))))
-  pub size : s′ .board .size ≡ s .board .size
-  pub ring : s′ .board .ring ≡ s .board .ring
-  pub memory : s′ .memory ≡ s .memory
+  pub room : SameRoom s s′
 
 abbrev pub Control-written : Type 0
 Control-written =
@@ -64,9 +63,11 @@ Control-written =
 -- "04h keeps the bits of fitted channels and sets the cursor to 0."
 pub record MaskWritten (s : State) (v : ℕ) (s′ : State) : Type 0 where
   pub stored : readAt (s′ .board) 0x04 ≡ v % 2 ^ channels (s .board .core .options .kit)
+  pub mask : s′ .board .core .outputs .mask ≡ v % 2 ^ channels (s .board .core .options .kit)
   pub cursor : s′ .board .core .outputs .cursor ≡ 0
   pub levels : s′ .board .core .outputs .levels ≡ s .board .core .outputs .levels
   pub rest : s′ .board .core ≡ withOutputs (s′ .board .core .outputs) (s .board .core)
+  pub room : SameRoom s s′
 
 abbrev pub Mask-written : Type 0
 Mask-written =
@@ -77,9 +78,11 @@ Mask-written =
 -- "08h keeps 16 bits."
 pub record RateWritten (s : State) (v : ℕ) (s′ : State) : Type 0 where
   pub stored : readAt (s′ .board) 0x08 ≡ v % 0x10000
+  pub divisor : s′ .board .core .clock .divisor ≡ v % 0x10000
   pub adjust : readAt (s′ .board) 0x1C ≡ readAt (s .board) 0x1C
   pub settling : s′ .board .core .clock .settling ≡ s .board .core .clock .settling
   pub rest : s′ .board .core ≡ withClock (s′ .board .core .clock) (s .board .core)
+  pub room : SameRoom s s′
 
 abbrev pub Rate-written : Type 0
 Rate-written =
@@ -90,11 +93,14 @@ Rate-written =
 -- "1Ch keeps Nclk (D8..0) and ALT (D9); a changed Nclk with EXTERNAL CLOCK set starts settling"
 pub record AdjustWritten (s : State) (v : ℕ) (s′ : State) : Type 0 where
   pub stored : readAt (s′ .board) 0x1C ≡ v % 0x400
-  pub rate : readAt (s′ .board) 0x08 ≡ readAt (s .board) 0x08
+  pub nclk : s′ .board .core .clock .nclk ≡ v % 0x200
+  pub alt : s′ .board .core .clock .alt ≡ bit 9 v
+  pub divisor : s′ .board .core .clock .divisor ≡ s .board .core .clock .divisor
   pub starts : s .board .core .mode .external ≡ true → v % 0x200 ≢ s .board .core .clock .nclk → s′ .board .core .clock .settling ≡ true
   pub same : v % 0x200 ≡ s .board .core .clock .nclk → s′ .board .core .clock .settling ≡ s .board .core .clock .settling
   pub inner : s .board .core .mode .external ≡ false → s′ .board .core .clock .settling ≡ s .board .core .clock .settling
   pub rest : s′ .board .core ≡ withClock (s′ .board .core .clock) (s .board .core)
+  pub room : SameRoom s s′
 
 abbrev pub Adjust-written : Type 0
 Adjust-written =
@@ -111,18 +117,20 @@ pub record BufferWritten (s : State) (v : ℕ) (s′ : State) : Type 0 where
   pub reserved : (bit 7 (readAt (s′ .board) 0x0C) ≡ false) × (bit 11 (readAt (s′ .board) 0x0C) ≡ false)
   -- "D16, D17 = 0 clear those flags, 1 leaves them"
   pub overflow : bit 16 (readAt (s′ .board) 0x0C) ≡ bit 16 (readAt (s .board) 0x0C) && bit 16 v
-  pub overrun : bit 17 (readAt (s′ .board) 0x0C) ≡ bit 17 (readAt (s .board) 0x0C) && bit 17 v
+  pub frameOverflow : bit 17 (readAt (s′ .board) 0x0C) ≡ bit 17 (readAt (s .board) 0x0C) && bit 17 v
+  -- the size code, D0 to D3; the fitted code stays
+  pub size : s′ .board .size ≡ record { fitted = s .board .size .fitted; code = v % 16 }
   -- "D8 = 0 drops pending and opened"
-  pub opens : bit 8 v ≡ false → s′ .board .core .load ≡ noLoad
+  pub uncircled : bit 8 v ≡ false → s′ .board .core .load ≡ noLoad
   -- "D11 = 1 empties, ends a burst, drops pending and opened and sets the cursor to 0"
-  pub empties : bit 11 v ≡ true → values s′ ≡ []
+  pub empties : bit 11 v ≡ true → s′ .board .ring ≡ record { first = 0; count = 0 }
   pub ends : bit 11 v ≡ true → s′ .board .core .burst ≡ noBurst
   pub cursor : bit 11 v ≡ true → s′ .board .core .outputs .cursor ≡ 0
   -- "if circular and not opened, pending = D9"
   pub dropped : bit 8 v ≡ true → bit 11 v ≡ true → s′ .board .core .load ≡ record { pending = bit 9 v; opened = false }
   pub asked : bit 8 v ≡ true → bit 11 v ≡ false → s .board .core .load .opened ≡ false
       → s′ .board .core .load ≡ record { pending = bit 9 v; opened = false }
-  pub opened : bit 8 v ≡ true → bit 11 v ≡ false → s .board .core .load .opened ≡ true → s′ .board .core .load ≡ s .board .core .load
+  pub alreadyOpened : bit 8 v ≡ true → bit 11 v ≡ false → s .board .core .load .opened ≡ true → s′ .board .core .load ≡ s .board .core .load
   -- D11 = 0 leaves the stored values, the burst and the cursor
   pub keeps : bit 11 v ≡ false → (s′ .board .ring ≡ s .board .ring)
       × (s′ .board .core .burst ≡ s .board .core .burst)
@@ -144,30 +152,38 @@ Buffer-written =
 
 -- ---- Calibration and settling
 
+-- the core is c, and nothing else has changed but the request
+pub record Became (s : State) (c : Core) (s′ : State) : Type 0 where
+  pub core : s′ .board .core ≡ c
+  pub room : SameRoom s s′
+
 -- 01: "A calibration end clears D13, sets "calibrated" and sets D14 on failure."
 abbrev pub Passed-calibrated : Type 0
 Passed-calibrated =
     (s : State)
     → refusal s (signal passed) ≡ 0
-    → (step s (signal passed)) .state .board .core
-    ≡ withCalibration (record { running = false; failed = s .board .core .calibration .failed; calibrated = true }) (s .board .core)
+    → Became s
+    (withCalibration (record { running = false; failed = s .board .core .calibration .failed; calibrated = true }) (s .board .core))
+    ((step s (signal passed)) .state)
 
 abbrev pub Failed-calibrated : Type 0
 Failed-calibrated =
     (s : State)
     → refusal s (signal failed) ≡ 0
-    → (step s (signal failed)) .state .board .core
-    ≡ withCalibration (record { running = false; failed = true; calibrated = true }) (s .board .core)
+    → Became s
+    (withCalibration (record { running = false; failed = true; calibrated = true }) (s .board .core))
+    ((step s (signal failed)) .state)
 
 -- 01: settling "lasts until the settled event or initialise"
 abbrev pub Settled-clock : Type 0
 Settled-clock =
     (s : State)
     → refusal s (signal settled) ≡ 0
-    → (step s (signal settled)) .state .board .core
-    ≡ withClock (record {
+    → Became s
+    (withClock (record {
       divisor = s .board .core .clock .divisor;
       nclk = s .board .core .clock .nclk;
       alt = s .board .core .clock .alt;
       settling = false;
-    }) (s .board .core)
+    }) (s .board .core))
+    ((step s (signal settled)) .state)
