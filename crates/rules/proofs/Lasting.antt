@@ -63,7 +63,7 @@ unfolding cursorAfter
 cursor-sound c h =
     either (λ (n : ℕ). n ≤ 20) (c .control .simultaneous) (h .cursor) (omega (arith, next-below c (h .cursor)))
 
-cursor-zeroed : (c : Core) → SoundOutputs (c .options .kit) (c .control .simultaneous) (c .outputs)
+pub cursor-zeroed : (c : Core) → SoundOutputs (c .options .kit) (c .control .simultaneous) (c .outputs)
     → c .control .simultaneous ≡ true → cursorAfter c ≡ 0
 unfolding cursorAfter
 cursor-zeroed c h e = rw e (h .zeroed e)

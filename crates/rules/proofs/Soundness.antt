@@ -13,7 +13,7 @@ use Rattle.rules.specs.Bits.{bit}
 use Rattle.rules.specs.Record.{State, depth, channels, optionsInRange, soundCore, soundRing, sound}
 use Rattle.rules.specs.Clocks.{clock}
 use Rattle.rules.specs.Laws.Soundness.{Sound, Stands, Sound-exactly}
-use Rattle.rules.proofs.Choice.{and-both, both-and, all-cons, cons-all, all-nil, onlyIf-to, onlyIf-from, not-and-to, not-and-from}
+use Rattle.rules.proofs.Choice.{and-both, both-and, or-left, or-right, all-cons, cons-all, all-nil, onlyIf-to, onlyIf-from, not-and-to, not-and-from}
 use Rattle.rules.proofs.Masks.{bit-below, below-bits}
 use Rattle.rules.proofs.Steps.{Fit, fit-sound, sound-fit}
 
@@ -64,13 +64,6 @@ pub options-from : (o : Options) → SoundOptions o → optionsInRange o ≡ tru
 unfolding optionsInRange
 options-from o s =
     cons-all _ _ (le-leb _ _ (s .range)) (cons-all _ _ (le-leb _ _ (s .filter)) (cons-all _ _ (le-leb _ _ (s .kit)) (cons-all _ _ (le-leb _ _ (s .firmware)) all-nil)))
-
-or-left : (x y : Bool) → x ≡ true → x || y ≡ true
-or-left x y h = rw h
-
-or-right : (x y : Bool) → y ≡ true → x || y ≡ true
-or-right true y h = refl
-or-right false y h = h
 
 or-either : (x y c : Bool) → (x ≡ true → c ≡ true) → (y ≡ true → c ≡ true) → x || y ≡ true → c ≡ true
 or-either true y c f g h = f refl

@@ -1,0 +1,147 @@
+-- An accepted clock: when it moves values, and what it then leaves, in the words of the rules.
+--   Ran s n o    the outcome o of an event that moves n of the values stored in s
+use Prim.Native.Nat.{ℕ, zero, suc, _≤_, _<_}
+use mathlib.Core.Path.{_≡_, refl, ap, _∙_}
+use mathlib.Core.Logic.{⊎-elim}
+use mathlib.Core.Bool.{Bool, true, false, not, _||_}
+use native.Mathlib.Nat.{not-suc-le-zero}
+use borrow.Author.Tests.{ltb-false, le-ltb, eqb-false, ne-eqb, not-true}
+use lib.Dec.{ltb, eqb}
+use lib.ListN.{length, take}
+use Rattle.rules.specs.Types.{Core, Board, Event, signal, Signal, tick, outside, trigger, passed, failed, settled}
+use Rattle.rules.specs.Record.{State, stored}
+use Rattle.rules.specs.Parts.{withBurst, withLoad, withOutputs}
+use Rattle.rules.specs.Clocks.{Op, leave, recirculate, Play, only, closed, clockReady, burstReady, targets, idle, moving, cursorAfter, laid, carriesEof, burstEnds, burstAfter, loadAfter, outgoing, moves, clock, tickAccepted, clockAccepted, onTick, onOutside}
+use Rattle.rules.specs.Play.{onSignal, play}
+use Rattle.rules.specs.Refusals.{refusal}
+use Rattle.rules.specs.Step.{Outcome, played, boardBefore, done, step}
+use Rattle.rules.specs.Laws.Soundness.{Sound}
+use Rattle.rules.specs.Laws.Refused.{TickAccepted, ClockAccepted}
+use Rattle.rules.specs.Laws.Moved.{Clocked, Closed, groupSize, ReadyToMove}
+use Rattle.rules.proofs.Choice.{cases, cond-true, cond-false, and-both, or-left, or-right, or-neither, neither-or, and-not-to, and-not-from}
+use Rattle.rules.proofs.Places.{onList}
+use Rattle.rules.proofs.Steps.{step-done, Kept, kept}
+use Rattle.rules.proofs.Soundness.{stands-fit}
+use Rattle.rules.proofs.Refusals.{refusal-stands}
+use Rattle.rules.proofs.Targets.{targets-group, group-pos}
+
+-- ---- Closed
+
+pub closed-to : (c : Core) → closed c ≡ true → Closed c
+unfolding closed
+closed-to c h =
+    let t = and-both (c .mode .circular) (not (c .load .opened)) h in
+    record { circular = t .0; unopened = not-true _ (t .1) }
+
+pub closed-from : (c : Core) → Closed c → closed c ≡ true
+unfolding closed
+closed-from c h = rw (h .circular, h .unopened)
+
+-- 01: "All values of one clock recirculate if the buffer was closed before it, else they are discarded."
+pub outgoing-open : (c : Core) (n : ℕ) → ¬ Closed c → outgoing c n ≡ leave n
+unfolding outgoing
+outgoing-open c n h = cases (λ (x : Op). x ≡ leave n) (closed c) (λ e. absurd (h (closed-to c e))) (λ _. refl)
+
+pub outgoing-closed : (c : Core) (n : ℕ) → Closed c → outgoing c n ≡ recirculate n
+unfolding outgoing
+outgoing-closed c n h = rw (closed-from c h)
+
+-- ---- Accepted
+
+tick-accepted : (b : Board) → TickAccepted b → tickAccepted (b .core) ≡ true
+unfolding tickAccepted
+tick-accepted b h =
+    let inner : Bool = not (b .core .mode .external) in
+    let alt : Bool = b .core .clock .alt in
+    let source : inner || alt ≡ true = ⊎-elim (λ e. or-left inner alt (rw e)) (or-right inner alt) (h .source) in
+    rw (h .enabled, source, h .uncalibrating)
+
+clock-accepted : (b : Board) → ClockAccepted b → clockAccepted (b .core) ≡ true
+unfolding clockAccepted clockReady
+clock-accepted b h = rw (h .enabled, h .external, h .direct, h .settled, h .uncalibrating)
+
+-- an accepted clock, a tick or an outside one, plays `clock`
+pub clock-plays : (s : State) (x : Signal) → Clocked x (s .board) → played s (signal x) ≡ clock (s .board .core) (stored s)
+unfolding play onSignal onTick onOutside
+clock-plays s tick h = cond-true _ _ _ (tick-accepted (s .board) h)
+clock-plays s outside h = cond-true _ _ _ (clock-accepted (s .board) h)
+clock-plays s trigger h = absurd h
+clock-plays s passed h = absurd h
+clock-plays s failed h = absurd h
+clock-plays s settled h = absurd h
+
+-- ---- Ready to move
+
+module _ (s : State) (sound : Sound (s .board)) where
+  abbrev core : Core
+  core = s .board .core
+
+  -- the test of `moving`
+  abbrev held : Bool
+  held = idle core || ltb (length (stored s)) (length (targets core))
+
+  ready-to : held ≡ false → ReadyToMove s
+  unfolding idle burstReady
+  ready-to h =
+      let a = or-neither (idle core) _ h in
+      let enough : length (targets core) ≤ length (stored s) = ltb-false _ _ (a .1) in
+      let b = or-neither (eqb (core .outputs .mask) 0) (burstReady core) (a .0) in
+      record {
+        mask = eqb-false _ _ (b .0);
+        burst = and-not-to (core .control .bursts) (core .burst .running) (b .1);
+        enough = rw (targets-group (s .board) sound) at enough;
+      }
+
+  ready-from : ReadyToMove s → held ≡ false
+  unfolding idle burstReady
+  ready-from h =
+      let enough : length (targets core) ≤ length (stored s) = rw (targets-group (s .board) sound) (h .enough) in
+      neither-or (idle core) _ (neither-or _ _ (ne-eqb _ _ (h .mask)) (and-not-from _ _ (h .burst))) (le-ltb _ _ enough)
+
+  ready-moving : ReadyToMove s → moving core (stored s) ≡ groupSize (s .board)
+  unfolding moving
+  ready-moving h = cond-false _ _ _ (ready-from h) ∙ targets-group (s .board) sound
+
+  unready-moving : ¬ ReadyToMove s → moving core (stored s) ≡ 0
+  unfolding moving
+  unready-moving h = cases (λ (n : ℕ). n ≡ 0) held (λ _. refl) (λ e. absurd (h (ready-to e)))
+
+  pub unready-plays : (x : Signal) → Clocked x (s .board) → ¬ ReadyToMove s → played s (signal x) ≡ only core
+  unfolding clock moves
+  unready-plays x a h = clock-plays s x a ∙ ap (moves core (stored s)) (unready-moving h)
+
+  pub ready-plays : (x : Signal) → Clocked x (s .board) → ReadyToMove s → played s (signal x) ≡ moves core (stored s) (groupSize (s .board))
+  unfolding clock
+  ready-plays x a h = clock-plays s x a ∙ ap (moves core (stored s)) (ready-moving h)
+
+-- ---- What is left
+
+-- the answer, the stored values, and the core with the three parts put anew that `moves` touches
+pub record Ran (s : State) (n : ℕ) (o : Outcome) : Type 0 where
+  pub moved : o .answer .moved ≡ n
+  pub lists : stored (o .state) ≡ onList (outgoing (s .board .core) n) (stored s)
+  pub core : o .state .board .core
+      ≡ withBurst (burstAfter (burstEnds (stored s) n) (s .board .core .burst))
+      (withLoad (loadAfter (carriesEof (take n (stored s))) (s .board .core .load))
+      (withOutputs (record {
+        mask = s .board .core .outputs .mask;
+        cursor = cursorAfter (s .board .core);
+        levels = laid (s .board .core .control .binary) (s .board .core .outputs .levels) (targets (s .board .core)) (take n (stored s));
+      }) (s .board .core)))
+
+moves-ran : (s : State) (e : Event) (n : ℕ) → zero < n → Kept s e → played s e ≡ moves (s .board .core) (stored s) n → Ran s n (done s e)
+unfolding done boardBefore moves
+moves-ran s e zero l k p = absurd (not-suc-le-zero l)
+moves-ran s e (suc n) l k p =
+    record {
+      moved = ap (λ (x : Play). x .moved) p;
+      lists = k .lists ∙ ap (λ (x : Play). onList (x .op) (stored s)) p;
+      core = ap (λ (x : Play). x .core) p;
+    }
+
+pub clock-ran : (s : State) (x : Signal) → refusal s (signal x) ≡ 0 → Clocked x (s .board) → ReadyToMove s → Ran s (groupSize (s .board)) (step s (signal x))
+clock-ran s x z a h =
+    let st = refusal-stands s (signal x) tt z in
+    rw (step-done s (signal x) z)
+    (moves-ran s (signal x) (groupSize (s .board)) (group-pos (s .board) (st .sound) (h .mask)) (kept s (signal x) tt (stands-fit s st))
+    (ready-plays s (st .sound) x a h))
