@@ -5,46 +5,39 @@ use mathlib.Core.Path.{_≡_, refl, ap, _∙_}
 use mathlib.Core.Logic.{⊎-elim}
 use mathlib.Core.Bool.{Bool, true, false, not, _||_}
 use native.Mathlib.Nat.{not-suc-le-zero}
-use borrow.Author.Tests.{ltb-false, le-ltb, eqb-false, ne-eqb, not-true}
+use borrow.Author.Tests.{ltb-false, le-ltb, eqb-false, ne-eqb}
 use lib.Dec.{ltb, eqb}
 use lib.ListN.{length, take}
-use Rattle.rules.specs.Types.{Core, Board, Event, signal, Signal, tick, outside, trigger, passed, failed, settled}
-use Rattle.rules.specs.Record.{State, stored}
+use Rattle.rules.specs.Types.{Core, Board, signal, Signal, tick, outside, trigger, passed, failed, settled}
+use Rattle.rules.specs.Record.{State, depth, stored}
 use Rattle.rules.specs.Parts.{withBurst, withLoad, withOutputs}
 use Rattle.rules.specs.Clocks.{Op, leave, recirculate, Play, only, closed, clockReady, burstReady, targets, idle, moving, cursorAfter, laid, carriesEof, burstEnds, burstAfter, loadAfter, outgoing, moves, clock, tickAccepted, clockAccepted, onTick, onOutside}
 use Rattle.rules.specs.Play.{onSignal, play}
+use Rattle.rules.specs.Place.{place}
+use Rattle.rules.specs.Size.{sizeAfter}
 use Rattle.rules.specs.Refusals.{refusal}
 use Rattle.rules.specs.Step.{Outcome, played, boardBefore, done, step}
 use Rattle.rules.specs.Laws.Soundness.{Sound}
 use Rattle.rules.specs.Laws.Refused.{TickAccepted, ClockAccepted}
 use Rattle.rules.specs.Laws.Moved.{Clocked, Closed, groupSize, ReadyToMove}
-use Rattle.rules.proofs.Choice.{cases, cond-true, cond-false, and-both, or-left, or-right, or-neither, neither-or, and-not-to, and-not-from}
+use Rattle.rules.proofs.Choice.{cases, cond-true, cond-false, or-left, or-right, or-neither, neither-or, and-not-to, and-not-from}
 use Rattle.rules.proofs.Places.{onList}
-use Rattle.rules.proofs.Steps.{step-done, Kept, kept}
+use Rattle.rules.proofs.States.{closed-exactly}
+use Rattle.rules.proofs.Steps.{placeOf, step-done, Kept, kept}
 use Rattle.rules.proofs.Soundness.{stands-fit}
 use Rattle.rules.proofs.Refusals.{refusal-stands}
 use Rattle.rules.proofs.Targets.{targets-group, group-pos}
 
--- ---- Closed
-
-pub closed-to : (c : Core) → closed c ≡ true → Closed c
-unfolding closed
-closed-to c h =
-    let t = and-both (c .mode .circular) (not (c .load .opened)) h in
-    record { circular = t .0; unopened = not-true _ (t .1) }
-
-pub closed-from : (c : Core) → Closed c → closed c ≡ true
-unfolding closed
-closed-from c h = rw (h .circular, h .unopened)
+-- ---- Where the values go
 
 -- 01: "All values of one clock recirculate if the buffer was closed before it, else they are discarded."
 pub outgoing-open : (c : Core) (n : ℕ) → ¬ Closed c → outgoing c n ≡ leave n
 unfolding outgoing
-outgoing-open c n h = cases (λ (x : Op). x ≡ leave n) (closed c) (λ e. absurd (h (closed-to c e))) (λ _. refl)
+outgoing-open c n h = cases (λ (x : Op). x ≡ leave n) (closed c) (λ e. absurd (h ((closed-exactly c) .0 e))) (λ _. refl)
 
 pub outgoing-closed : (c : Core) (n : ℕ) → Closed c → outgoing c n ≡ recirculate n
 unfolding outgoing
-outgoing-closed c n h = rw (closed-from c h)
+outgoing-closed c n h = rw ((closed-exactly c) .1 h)
 
 -- ---- Accepted
 
@@ -116,10 +109,12 @@ module _ (s : State) (sound : Sound (s .board)) where
 
 -- ---- What is left
 
--- the answer, the stored values, and the core with the three parts put anew that `moves` touches
+-- the answer, the stored values and their places, and the core with the three parts put anew that `moves` touches
 pub record Ran (s : State) (n : ℕ) (o : Outcome) : Type 0 where
   pub moved : o .answer .moved ≡ n
   pub lists : stored (o .state) ≡ onList (outgoing (s .board .core) n) (stored s)
+  pub places : placeOf (o .state) ≡ place (depth (s .board)) (outgoing (s .board .core) n) (placeOf s)
+  pub size : o .state .board .size ≡ s .board .size
   pub core : o .state .board .core
       ≡ withBurst (burstAfter (burstEnds (stored s) n) (s .board .core .burst))
       (withLoad (loadAfter (carriesEof (take n (stored s))) (s .board .core .load))
@@ -129,13 +124,16 @@ pub record Ran (s : State) (n : ℕ) (o : Outcome) : Type 0 where
         levels = laid (s .board .core .control .binary) (s .board .core .outputs .levels) (targets (s .board .core)) (take n (stored s));
       }) (s .board .core)))
 
-moves-ran : (s : State) (e : Event) (n : ℕ) → zero < n → Kept s e → played s e ≡ moves (s .board .core) (stored s) n → Ran s n (done s e)
-unfolding done boardBefore moves
-moves-ran s e zero l k p = absurd (not-suc-le-zero l)
-moves-ran s e (suc n) l k p =
+moves-ran : (s : State) (x : Signal) (n : ℕ) → zero < n → Kept s (signal x) → played s (signal x) ≡ moves (s .board .core) (stored s) n
+    → Ran s n (done s (signal x))
+unfolding done boardBefore moves sizeAfter
+moves-ran s x zero l k p = absurd (not-suc-le-zero l)
+moves-ran s x (suc n) l k p =
     record {
       moved = ap (λ (x : Play). x .moved) p;
       lists = k .lists ∙ ap (λ (x : Play). onList (x .op) (stored s)) p;
+      places = ap (λ (x : Play). place (depth (s .board)) (x .op) (placeOf s)) p;
+      size = refl;
       core = ap (λ (x : Play). x .core) p;
     }
 
@@ -143,5 +141,5 @@ pub clock-ran : (s : State) (x : Signal) → refusal s (signal x) ≡ 0 → Cloc
 clock-ran s x z a h =
     let st = refusal-stands s (signal x) tt z in
     rw (step-done s (signal x) z)
-    (moves-ran s (signal x) (groupSize (s .board)) (group-pos (s .board) (st .sound) (h .mask)) (kept s (signal x) tt (stands-fit s st))
+    (moves-ran s x (groupSize (s .board)) (group-pos (s .board) (st .sound) (h .mask)) (kept s (signal x) tt (stands-fit s st))
     (ready-plays s (st .sound) x a h))

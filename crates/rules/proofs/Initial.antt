@@ -5,7 +5,9 @@ use mathlib.Core.Path.{_≡_, refl, _∙_}
 use mathlib.Core.Bool.{true, false}
 use mathlib.Core.List.{List, append-assoc}
 use native.Mathlib.Omega.{arith}
-use borrow.Author.Tests.{lt-ltb, le-ltb, lt-leb}
+use lib.Dec.{eqb}
+use lib.ListN.{getD, replicate}
+use borrow.Author.Tests.{eqb-true, lt-ltb, le-ltb, lt-leb}
 use Rattle.rules.specs.Types.{Settings, Options, Size, Board, powerUp, write}
 use Rattle.rules.specs.Bits.{bit, bitsOf, flag, number}
 use Rattle.rules.specs.Record.{State, activeSize, channels, values, stored}
@@ -19,7 +21,9 @@ use Rattle.rules.specs.Size.{initialises, codeOf, sizeAfter}
 use Rattle.rules.specs.Interrupt.{requestAfter}
 use Rattle.rules.specs.Refusals.{refusal}
 use Rattle.rules.specs.Step.{boardBefore, done, step}
-use Rattle.rules.specs.Laws.Initial.{Fresh, Power-up-fresh, Initialise-fresh}
+use Rattle.rules.specs.Laws.Initial.{Fresh, Power-up-fresh, Initialise-fresh, Unpowered-zero}
+use Rattle.rules.proofs.Open.{rules-open}
+use Rattle.rules.proofs.Choice.{upTo, upTo-at}
 use Rattle.rules.proofs.Sizes.{size-pos}
 use Rattle.rules.proofs.Soundness.{SoundOptions, sound-core}
 use Rattle.rules.proofs.Lasting.{up-stands}
@@ -121,3 +125,16 @@ pub initialise-fresh : Initialise-fresh
 initialise-fresh s v h e =
     rw (initialise-state s v h e)
     (fresh-fresh _ (s .board .size .fitted) (s .memory) (initialise-options s v h))
+
+-- ---- The unpowered record
+
+pub unpowered-zero : Unpowered-zero
+unfolding rules-open upTo
+unpowered-zero =
+    record {
+      levels = λ k h. eqb-true _ _ (upTo-at 20 (λ j. eqb (getD (replicate 20 0) j 1) 0) refl k h);
+      registers = (refl, refl, refl, refl, refl);
+      fitted = refl;
+      ring = refl;
+      unsound = refl;
+    }

@@ -18,6 +18,7 @@ use Rattle.rules.specs.Step.{withRequest, boardBefore, done}
 use Rattle.rules.specs.Laws.Interrupts.{selected, Condition, calibrated, empty, low, high, burst, loadReady, notLoadReady, Initialises, up, set, Clears, clears, Held, Condition-exactly, Request-initialised, Edge, Request-edge}
 use Rattle.rules.proofs.Choice.{not-true, not-both}
 use Rattle.rules.proofs.States.{closed-exactly, closed-not, burst-ready-exactly}
+use Rattle.rules.proofs.Nothing.{edge-same}
 use Rattle.rules.proofs.Steps.{step-done, stored-length}
 
 -- ---- The condition
@@ -107,11 +108,6 @@ condition-request : (q : Bool) (b : Board) → condition (withRequest q b) ≡ c
 unfolding condition conditions
 condition-request q b = refl
 
-edge-level : (t q : Bool) → edge t t q ≡ q
-unfolding edge
-edge-level true q = refl
-edge-level false q = refl
-
 module _ (s : State) (e : Event) (k : ¬ Initialises e) where
   -- the state after the event
   s′ : State
@@ -142,7 +138,7 @@ module _ (s : State) (e : Event) (k : ¬ Initialises e) where
         changed = λ z. unfold s′ done boardBefore requestAfter in rw (initialises-not e k, ne-eqb _ _ (λ y. z (sym y))) (held (s .board .request) e);
         rise = λ z n c. edge-of z ∙ rw (not-true before (λ t. n ((condition-exactly s) .0 t)), (behind-exactly) .1 c);
         fall = λ z c n. edge-of z ∙ rw ((condition-exactly s) .1 c, not-true behind (λ t. n ((behind-exactly) .0 t)));
-        level = λ z i. subst (Held e (s .board .request)) (sym (edge-of z ∙ ap (λ (t : Bool). edge t behind (requestHeld (s .board .request) e)) (equal i) ∙ edge-level behind _)) (held (s .board .request) e);
+        level = λ z i. subst (Held e (s .board .request)) (sym (edge-of z ∙ ap (λ (t : Bool). edge t behind (requestHeld (s .board .request) e)) (equal i) ∙ edge-same behind _)) (held (s .board .request) e);
       }
     where
       equal : (Condition s ↔ Condition s′) → before ≡ behind

@@ -23,11 +23,13 @@ pub mod Bench
 pub mod Soundness
 pub mod Lasting
 pub mod Refusals
+pub mod Refused
 pub mod Targets
 pub mod Moved
 pub mod SoftwareClock
 pub mod Frames
 pub mod Loads
+pub mod Leaving
 pub mod Memory
 pub mod Registers
 pub mod Initial

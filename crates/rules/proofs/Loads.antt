@@ -13,13 +13,15 @@ use Rattle.rules.specs.Types.{Core, Event, powerUp, write, read, signal,
 use Rattle.rules.specs.Bits.{bit}
 use Rattle.rules.specs.Record.{State, activeSize, depth, stored, valueSpan}
 use Rattle.rules.specs.Parts.{withLost}
-use Rattle.rules.specs.Clocks.{keep, store, Fate, none, stored as storedFate, lostToFull, lostToClosed, fateNumber, Play, closed, moving, moves, clock, tickAccepted, clockAccepted, onTick, onOutside, onTrigger}
+use Rattle.rules.specs.Clocks.{Op, keep, store, Fate, none, stored as storedFate, lostToFull, lostToClosed, fateNumber, Play, closed, moving, moves, clock, tickAccepted, clockAccepted, onTick, onOutside, onTrigger}
 use Rattle.rules.specs.Flags.{isFull}
 use Rattle.rules.specs.Writes.{writeControl, writeMask, writeRate, writeAdjust, bufferOf, tried, writeBuffer, writeData, onWrite}
 use Rattle.rules.specs.Play.{calibrationEnds, settles, onSignal, play}
 use Rattle.rules.specs.Place.{Place, placeStore, place}
+use Rattle.rules.specs.Size.{codeOf, sizeAfter}
 use Rattle.rules.specs.Refusals.{refusal}
 use Rattle.rules.specs.Step.{Outcome, refused, played, placed, boardBefore, done, step}
+use Rattle.rules.specs.Laws.Refused.{SameRoom}
 use Rattle.rules.specs.Laws.Loads.{Loaded, Load-loaded, IsLoad, Fate-none}
 use Rattle.rules.specs.Laws.Places.{Load-place}
 use Rattle.rules.proofs.Choice.{either}
@@ -70,6 +72,17 @@ module _ (s : State) (v : ℕ) where
         let k : Kept s (write 0x18 v) = kept s (write 0x18 v) tt (stands-fit s (refusal-stands s (write 0x18 v) tt h)) in
         (ap (λ (q : Play). fateNumber (q .fate)) e, ap (λ (q : Play). q .core) e, k .lists ∙ ap (λ (q : Play). onList (q .op) (stored s)) e)
 
+    size-same : o .state .board .size ≡ s .board .size
+    unfolding o done boardBefore sizeAfter codeOf
+    size-same = refl
+
+    -- a play that keeps the values
+    room-same : (p : Play) → played s (write 0x18 v) ≡ p → p .op ≡ keep → SameRoom s (o .state)
+    unfolding o done boardBefore place
+    room-same p e k =
+        let q : placed s (write 0x18 v) ≡ placeOf s = ap (λ (x : Op). place (depth (s .board)) x (placeOf s)) (ap (λ (x : Play). x .op) e ∙ k) in
+        record { size = size-same; ring = ap (λ (x : Place). x .ring) q; memory = ap (λ (x : Place). x .memory) q }
+
     loaded-closed : closed (s .board .core) ≡ true → Loaded s v o
     unfolding onList
     loaded-closed c =
@@ -83,6 +96,8 @@ module _ (s : State) (v : ℕ) where
           appended = λ z. absurd (omega arith);
           lostToFull = λ z. absurd (omega arith);
           lostToClosed = λ _. (t .2, t .1);
+          lostRoom = λ _. room-same _ (played-closed c) refl;
+          size = size-same;
         }
 
     loaded-full : closed (s .board .core) ≡ false → full ≡ true → Loaded s v o
@@ -99,6 +114,8 @@ module _ (s : State) (v : ℕ) where
           appended = λ z. absurd (omega arith);
           lostToFull = λ _. (t .2, t .1);
           lostToClosed = λ z. absurd (omega arith);
+          lostRoom = λ _. room-same _ (played-full c g) refl;
+          size = size-same;
         }
 
     loaded-room : closed (s .board .core) ≡ false → full ≡ false → Loaded s v o
@@ -115,6 +132,8 @@ module _ (s : State) (v : ℕ) where
           appended = λ _. (t .2 ∙ ap (λ (x : ℕ). stored s ++ (x ∷ [])) (mod-mod v valueSpan), t .1);
           lostToFull = λ z. absurd (omega arith);
           lostToClosed = λ z. absurd (omega arith);
+          lostRoom = λ z. absurd (z f);
+          size = size-same;
         }
 
     loaded : Loaded s v o

@@ -33,7 +33,7 @@ bit-even v z =
     let e : v % 2 ≢ 1 = eqb-false (v % 2) 1 (ap (λ (x : ℕ). eqb (x % 2) 1) (sym (div-one v)) ∙ z) in
     omega arith
 
-bit-suc : (k v : ℕ) → bit (suc k) v ≡ bit k (v / 2)
+pub bit-suc : (k v : ℕ) → bit (suc k) v ≡ bit k (v / 2)
 bit-suc k v = ap (λ (x : ℕ). bit x v) (sym (one-add k)) ∙ bit-shift 1 k v
 
 -- ---- The highest bit

@@ -4,8 +4,7 @@ use mathlib.Core.Path.{_≡_, refl, ap, _∙_}
 use mathlib.Core.Bool.{Bool, true, false, _||_}
 use mathlib.Core.List.{List}
 use native.Mathlib.Omega.{arith}
-use borrow.Author.Tests.{eqb-true}
-use lib.Dec.{eqb, ltb}
+use lib.Dec.{ltb}
 use lib.ListN.{length, getD, take}
 use lib.Seq.{length-take-le, getD-take}
 use Rattle.rules.specs.Types.{Core, Event, powerUp, write, read, signal, Signal, tick, outside, trigger, passed, failed, settled}
@@ -18,6 +17,7 @@ use Rattle.rules.specs.Step.{Outcome, refused, done, step}
 use Rattle.rules.specs.Laws.Soundness.{Sound}
 use Rattle.rules.specs.Laws.Moved.{groupSize, ReadyToMove, levelAt, MayMove, Idle-nothing, Clock-moves, Moved-most, Moved-none}
 use Rattle.rules.proofs.Choice.{cases, either}
+use Rattle.rules.proofs.Offsets.{write-cases}
 use Rattle.rules.proofs.Places.{onList}
 use Rattle.rules.proofs.Steps.{step-done, step-cases}
 use Rattle.rules.proofs.Soundness.{sound-core}
@@ -70,6 +70,8 @@ clock-moves s x twenty z a h =
       hold = λ k m. ap (λ (x : Core). getD (x .outputs .levels) k 0) (r .core) ∙ laid-hold (c .control .binary) (c .outputs .levels) (targets c) _ k m;
       single = λ e. ap (λ (x : Core). x .outputs .cursor) (r .core) ∙ cursor-single c e;
       group = λ e. ap (λ (x : Core). x .outputs .cursor) (r .core) ∙ cursor-zeroed c ((sound-core (s .board) sound) .outputs) e;
+      rest = rw (r .core);
+      size = r .size;
     }
 
 -- ---- How many values an event moves
@@ -106,14 +108,12 @@ module _ (P : ℕ → Type 0) (nought : P 0) (buf : List ℕ) where
   buffer-moving c v f = either Moving (bit 11 v) nought (cases Moving (bit 7 v) (λ t. outside-moving (bufferOf v c) (f t)) (λ _. nought))
 
   write-moving : (c : Core) (full : Bool) (o v : ℕ) → (MayMove (write o v) → P (moving (bufferOf v c) buf)) → Moving (onWrite c buf full o v)
-  unfolding onWrite writeControl writeMask writeRate writeAdjust writeData
+  unfolding writeControl writeMask writeRate writeAdjust writeData
   write-moving c full o v f =
-      either Moving (eqb o 0x00) (either Moving (bit 15 v) nought nought)
-      (either Moving (eqb o 0x04) nought
-      (either Moving (eqb o 0x08) nought
-      (cases Moving (eqb o 0x0C) (λ e. buffer-moving c v (λ t. f (eqb-true _ _ e, t))) (λ _.
-      either Moving (eqb o 0x18) (either Moving (closed c) nought (either Moving full nought nought))
-      nought))))
+      write-cases Moving c buf full o v (λ _. nought) (λ _. nought) (λ _. nought) (λ _. nought)
+      (λ e. buffer-moving c v (λ t. f (e, t)))
+      (λ _. either Moving (closed c) nought (either Moving full nought nought))
+      nought
 
   play-moving : (c : Core) (full : Bool) (e : Event) → (MayMove e → (c : Core) → P (moving c buf)) → Moving (play c buf full e)
   unfolding play

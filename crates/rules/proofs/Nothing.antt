@@ -2,7 +2,7 @@
 use mathlib.Core.Path.{_≡_, refl}
 use mathlib.Core.Bool.{Bool, true, false}
 use borrow.Author.Tests.{eq-eqb}
-use Rattle.rules.specs.Types.{Board, signal, Signal}
+use Rattle.rules.specs.Types.{Board, Event, signal, Signal}
 use Rattle.rules.specs.Record.{State}
 use Rattle.rules.specs.Clocks.{only}
 use Rattle.rules.specs.Place.{place}
@@ -11,21 +11,22 @@ use Rattle.rules.specs.Interrupt.{condition, requestHeld, edge, requestA
 use Rattle.rules.specs.Step.{reading, played, boardBefore, done}
 use Rattle.rules.specs.Laws.Refused.{Nothing}
 
-edge-same : (t q : Bool) → edge t t q ≡ q
+pub edge-same : (t q : Bool) → edge t t q ≡ q
 unfolding edge
 edge-same true q = refl
 edge-same false q = refl
 
-request-same : (x : Signal) (b : Board) → requestAfter (signal x) b b ≡ b .request
-unfolding requestAfter initialises
-request-same x b = let n = b .core .control .selection in rw (eq-eqb n n refl) (edge-same (condition b) (b .request))
+-- an event that initialises nothing and leaves the board as it was makes no edge
+pub request-kept : (e : Event) (b : Board) → initialises e ≡ false → requestAfter e b b ≡ b .request
+unfolding requestAfter
+request-kept e b h = let n = b .core .control .selection in rw (h, eq-eqb n n refl) (edge-same (condition b) (b .request))
 
 pub only-nothing : (s : State) (x : Signal) → played s (signal x) ≡ only (s .board .core) → Nothing s (done s (signal x))
-unfolding done boardBefore reading place sizeAfter requestHeld
+unfolding done boardBefore reading place sizeAfter requestHeld initialises
 only-nothing s x p =
     record {
       register = refl;
       moved = rw p;
       fate = rw p;
-      state = rw (p, request-same x (s .board));
+      state = rw (p, request-kept (signal x) (s .board) refl);
     }

@@ -38,7 +38,7 @@ mod-away {f} {c} {d} hf hc e = go (mod-lap hf hc)
     go (inr h) = omega arith
 
 -- one place on, and then c more, is suc c on
-mod-shift : (f c d : ℕ) → ((f + 1) % d + c) % d ≡ (f + suc c) % d
+pub mod-shift : (f c d : ℕ) → ((f + 1) % d + c) % d ≡ (f + suc c) % d
 mod-shift f c d = mod-add-mod (f + 1) d c ∙ ap (λ (x : ℕ). x % d) (omega arith)
 
 -- ---- The list of a ring

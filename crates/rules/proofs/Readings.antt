@@ -6,14 +6,14 @@ use mathlib.Core.Path.{_≡_, refl, sym, ap, _∙_}
 use mathlib.Core.Bool.{Bool, true, false}
 use mathlib.Core.List.{List, [], _∷_, _++_}
 use native.Mathlib.Nat.{mod-one, div-one, pow-suc, not-suc-le-zero, le-of-suc-le-suc}
-use native.Mathlib.Numerals.{one-add, add-one}
+use native.Mathlib.Numerals.{add-one}
 use native.Mathlib.Omega.{arith}
 use borrow.Author.Tests.{eq-eqb, ne-eqb}
 use lib.Dec.{eqb}
 use lib.ListN.{length, getD}
 use lib.Pow.{mod-pow-add}
 use Rattle.rules.specs.Bits.{bit, bitsOf, flag, number}
-use Rattle.rules.proofs.Masks.{bit-shift, bit-below}
+use Rattle.rules.proofs.Masks.{bit-shift, bit-below, bit-suc}
 
 -- ---- A bit as a number
 
@@ -34,10 +34,6 @@ flag-bit k v = flag-eqb (v / 2 ^ k % 2) (omega arith)
 
 -- ---- Bit by bit
 
--- bit suc k of v is bit k of its half
-pub bit-half : (k v : ℕ) → bit (suc k) v ≡ bit k (v / 2)
-bit-half k v = ap (λ (n : ℕ). bit n v) (sym (one-add k)) ∙ bit-shift 1 k v
-
 bit-head : (b : Bool) (n : ℕ) → bit 0 (flag b + 2 * n) ≡ b
 unfolding bit flag
 bit-head true n = eq-eqb ((1 + 2 * n) / 1 % 2) 1 (omega arith)
@@ -46,7 +42,7 @@ bit-head false n = ne-eqb ((0 + 2 * n) / 1 % 2) 1 (omega arith)
 bit-tail : (k : ℕ) (b : Bool) (n : ℕ) → bit (suc k) (flag b + 2 * n) ≡ bit k n
 bit-tail k b n =
     let e : (flag b + 2 * n) / 2 ≡ n = omega (arith, flag-le b) in
-    bit-half k (flag b + 2 * n) ∙ ap (bit k) e
+    bit-suc k (flag b + 2 * n) ∙ ap (bit k) e
 
 pub bit-number : (bs : List Bool) (k : ℕ) → bit k (number bs) ≡ getD bs k false
 unfolding number
@@ -65,7 +61,7 @@ pub getD-bitsOf : (n v k : ℕ) → k < n → getD (bitsOf n v) k false ≡ bit 
 unfolding bitsOf
 getD-bitsOf zero v k h = absurd (not-suc-le-zero h)
 getD-bitsOf (suc n) v zero h = refl
-getD-bitsOf (suc n) v (suc k) h = getD-bitsOf n (v / 2) k (le-of-suc-le-suc h) ∙ sym (bit-half k v)
+getD-bitsOf (suc n) v (suc k) h = getD-bitsOf n (v / 2) k (le-of-suc-le-suc h) ∙ sym (bit-suc k v)
 
 pub number-bitsOf : (n v : ℕ) → number (bitsOf n v) ≡ v % 2 ^ n
 unfolding bitsOf number

@@ -1,13 +1,15 @@
--- The active size is at most the depth and grows with both codes; what that says of a full buffer.
+-- The active size is at most the depth and grows with both codes; what that says of a full buffer. No kit has more than 20 channels.
 use Prim.Native.Nat.{ℕ, zero, _^_, _≤_, _<_, min}
 use mathlib.Core.Path.{_≡_}
 use mathlib.Core.Bool.{false}
 use native.Mathlib.Omega.{arith}
 use borrow.Author.Tests.{leb-false, lt-leb}
+use lib.Dec.{eqb}
 use lib.Pow.{pow-pos, pow-mono}
 use Rattle.rules.specs.Types.{Size}
-use Rattle.rules.specs.Record.{depthOf, activeSize}
+use Rattle.rules.specs.Record.{depthOf, activeSize, channels}
 use Rattle.rules.specs.Flags.{isFull}
+use Rattle.rules.proofs.Choice.{either}
 
 pub depth-pos : (d : ℕ) → zero < depthOf d
 unfolding depthOf
@@ -20,6 +22,10 @@ size-pos s = omega (arith, pow-pos (min (s .code) (s .fitted)))
 pub size-depth : (s : Size) → activeSize s ≤ depthOf (s .fitted)
 unfolding depthOf activeSize
 size-depth s = let h : 2 ^ min (s .code) (s .fitted) ≤ 2 ^ s .fitted = pow-mono (omega arith) in omega arith
+
+pub channels-le : (kit : ℕ) → channels kit ≤ 20
+unfolding channels
+channels-le kit = either (λ (n : ℕ). n ≤ 20) (eqb kit 0) (omega arith) (either (λ (n : ℕ). n ≤ 20) (eqb kit 1) (omega arith) (omega arith))
 
 -- ---- Sizes of which neither code is lower
 

@@ -7,13 +7,13 @@ use native.Mathlib.Omega.{arith}
 use Rattle.rules.specs.Types.{Core, Event, write, signal, outside}
 use Rattle.rules.specs.Bits.{bit}
 use Rattle.rules.specs.Record.{State, depth, stored}
-use Rattle.rules.specs.Clocks.{clear, none, Play, only, moving, moves, clock, clockAccepted, onOutside}
+use Rattle.rules.specs.Clocks.{clear, none, fateNumber, Play, only, moving, moves, clock, clockAccepted, onOutside}
 use Rattle.rules.specs.Writes.{modeOf, lostOf, loadKept, loadAsked, bufferOf, tried, writeBuffer, onWrite}
 use Rattle.rules.specs.Play.{onSignal, play}
 use Rattle.rules.specs.Place.{Place, place}
 use Rattle.rules.specs.Size.{codeOf, sizeAfter}
 use Rattle.rules.specs.Refusals.{rows, refusal}
-use Rattle.rules.specs.Step.{played, boardBefore, done}
+use Rattle.rules.specs.Step.{reading, played, boardBefore, done}
 use Rattle.rules.specs.Laws.Soundness.{Stands}
 use Rattle.rules.specs.Laws.Refusals.{Ordinary, heard, aClock}
 use Rattle.rules.specs.Laws.Moved.{SameButRequest, Software-clock}
@@ -30,6 +30,7 @@ use Rattle.rules.proofs.Refusals.{refusal-exactly, refusal-stands}
 
 record Together (d : ℕ) (q : Place) (both first second : Play) : Type 0 where
   moved : both .moved ≡ second .moved
+  fate : both .fate ≡ second .fate
   core : both .core ≡ second .core
   places : place d (both .op) q ≡ place d (second .op) (place d (first .op) q)
 
@@ -76,8 +77,8 @@ module _ (c : Core) (buf : List ℕ) (v : ℕ) (z : bit 7 v ≡ false) where
   either-together : (d : ℕ) (q : Place) (d11 : Bool)
       → Together d q (emptiedOr (onOutside (bufferOf v c) buf) d11) (emptiedOr (only (bufferOf v c)) d11) (clocked buf (emptiedOr (only (bufferOf v c)) d11))
   unfolding place onList
-  either-together d q true = rw (outside-empty (bufferOf v c)) (record { moved = refl; core = refl; places = refl })
-  either-together d q false = record { moved = refl; core = refl; places = refl }
+  either-together d q true = rw (outside-empty (bufferOf v c)) (record { moved = refl; fate = refl; core = refl; places = refl })
+  either-together d q false = record { moved = refl; fate = refl; core = refl; places = refl }
 
   write-together : (d : ℕ) (q : Place) → Together d q (writeBuffer c buf (v + 0x80)) (writeBuffer c buf v) (clocked buf (writeBuffer c buf v))
   write-together d q = rw (with-clock, without-clock) (either-together d q (bit 11 v))
@@ -94,7 +95,7 @@ clock-open s e o st = (refusal-exactly _ (signal outside) 0) .1 (heard aClock (d
 
 done-together : (s : State) (v : ℕ) → Stands s → bit 7 v ≡ false
     → SameButRequest (done s (write 0x0C (v + 0x80))) (done ((done s (write 0x0C v)) .state) (signal outside))
-unfolding done boardBefore play onWrite onSignal sizeAfter codeOf
+unfolding done boardBefore reading play onWrite onSignal sizeAfter codeOf
 done-together s v st z =
     let d : ℕ = depth (s .board) in
     let first : Play = writeBuffer (s .board .core) (stored s) v in
@@ -102,9 +103,11 @@ done-together s v st z =
     let r : clocked (stored s) first ≡ played ((done s (write 0x0C v)) .state) (signal outside) =
     ap (onOutside (first .core)) (sym ((kept s (write 0x0C v) tt (stands-fit s st)) .lists)) in
     let q = t .places ∙ ap (λ (p : Play). place d (p .op) (place d (first .op) (placeOf s))) r in
+    let moved = t .moved ∙ ap (λ (p : Play). p .moved) r in
+    let fate = t .fate ∙ ap (λ (p : Play). p .fate) r in
     let code : (v + 0x80) % 16 ≡ v % 16 = omega arith in
     record {
-      moved = t .moved ∙ ap (λ (p : Play). p .moved) r;
+      answer = λ i. record { refusal = 0; register = 0; moved = moved i; fate = fateNumber (fate i) };
       core = t .core ∙ ap (λ (p : Play). p .core) r;
       size = rw code;
       ring = ap (λ (p : Place). p .ring) q;

@@ -4,29 +4,23 @@ use mathlib.Core.Path.{_≡_, refl, sym, ap, _∙_}
 use mathlib.Core.Logic.{_≢_, _⊎_, inl, inr, ⊎-elim}
 use mathlib.Core.Bool.{Bool, true, false, cond, true≢false}
 use mathlib.Core.List.{List, [], _∷_}
-use native.Mathlib.Nat.{le-refl, zero-lt-suc, div-one}
+use native.Mathlib.Nat.{zero-lt-suc, div-one}
 use native.Mathlib.Omega.{arith}
 use lib.Count.{ones}
-use lib.Dec.{eqb}
 use lib.ListN.{length}
 use Rattle.rules.specs.Types.{Core, Board}
 use Rattle.rules.specs.Bits.{bit, activeFrom, headOr}
-use Rattle.rules.specs.Record.{channels}
 use Rattle.rules.specs.Clocks.{nextChannel, targets}
 use Rattle.rules.specs.Laws.Soundness.{Sound}
 use Rattle.rules.specs.Laws.Moved.{groupSize, Among, LowestFrom, Sequential-target, Simultaneous-targets}
 use Rattle.rules.proofs.Choice.{either, not-true}
 use Rattle.rules.proofs.Masks.{below-bits}
+use Rattle.rules.proofs.Sizes.{channels-le}
 use Rattle.rules.proofs.Actives.{active-to, active-from, active-ascending, Begins, active-begins, active-length, active-ones}
 use Rattle.rules.proofs.Among.{among-nil, among-cons, Ascending, ascending-nil, ascending-cons}
 use Rattle.rules.proofs.Lasting.{next-below}
 
 -- ---- The mask of a sound record
-
-channels-le : (kit : ℕ) → channels kit ≤ 20
-unfolding channels
-channels-le kit =
-    either (λ (n : ℕ). n ≤ 20) (eqb kit 0) (omega arith) (either (λ (n : ℕ). n ≤ 20) (eqb kit 1) (omega arith) (le-refl 20))
 
 -- k is the lowest active channel at or above the cursor; or the lowest active one, none being at or above the cursor
 abbrev Next : ℕ → ℕ → ℕ → Type 0
@@ -82,7 +76,7 @@ simultaneous-targets b s e =
     (record {
       active = λ k. (λ h. (active-to 20 0 _ k h) .0, λ t. active-from 20 0 _ k zero-le (active-lt b s k t) t);
       ascending = active-ascending 20 0 _;
-      ones = mask-ones b s;
+      asManyAsOnes = mask-ones b s;
     })
 
 -- ---- Either mode

@@ -1,11 +1,10 @@
 -- Writes to 04h, 08h and 1Ch, a calibration's end and a settled event.
-use Prim.Native.Nat.{ℕ, _%_, _^_, _≤_, _<_}
+use Prim.Native.Nat.{ℕ, _%_, _^_, _<_}
 use mathlib.Core.Path.{_≡_, refl, _∙_}
 use mathlib.Core.Bool.{and-false, or-true, or-false}
 use native.Mathlib.Nat.{mod-lt, mod-eq-of-lt, mod-mod, le-trans}
 use native.Mathlib.Omega.{arith}
 use borrow.Author.Tests.{eq-eqb, ne-eqb}
-use lib.Dec.{eqb}
 use lib.Pow.{pow-pos, pow-mono}
 use Rattle.rules.specs.Types.{Core, write, signal, Signal, passed, failed, settled}
 use Rattle.rules.specs.Bits.{number}
@@ -19,15 +18,11 @@ use Rattle.rules.specs.Size.{codeOf, sizeAfter}
 use Rattle.rules.specs.Refusals.{refusal}
 use Rattle.rules.specs.Step.{played, step}
 use Rattle.rules.specs.Laws.Written.{Became, MaskWritten, Mask-written, RateWritten, Rate-written, AdjustWritten, Adjust-written, Passed-calibrated, Failed-calibrated, Settled-clock}
-use Rattle.rules.proofs.Choice.{either}
+use Rattle.rules.proofs.Sizes.{channels-le}
 use Rattle.rules.proofs.Readings.{flag-bit, number-bitsOf, number-field}
 use Rattle.rules.proofs.Played.{played-after}
 
 -- ---- 04h
-
-channels-le : (kit : ℕ) → channels kit ≤ 20
-unfolding channels
-channels-le kit = either (λ (n : ℕ). n ≤ 20) (eqb kit 0) (omega arith) (either (λ (n : ℕ). n ≤ 20) (eqb kit 1) (omega arith) (omega arith))
 
 -- the mask of the fitted channels has no more than the register's 20 bits
 mask-fits : (kit v : ℕ) → v % 2 ^ channels kit < 2 ^ 20

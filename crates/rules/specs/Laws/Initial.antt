@@ -1,12 +1,12 @@
 -- What initialise and power-up leave: all eight readings for every kit, the levels, the stored values, the request.
-use Prim.Native.Nat.{ℕ, _+_, _*_}
+use Prim.Native.Nat.{ℕ, _+_, _*_, _<_}
 use mathlib.Core.Path.{_≡_}
 use mathlib.Core.Bool.{true, false}
 use mathlib.Core.List.{List, []}
-use lib.ListN.{replicate}
-use Rattle.rules.specs.Types.{Settings, Options, powerUp, write}
+use lib.ListN.{getD, replicate}
+use Rattle.rules.specs.Types.{Settings, Options, Board, powerUp, write}
 use Rattle.rules.specs.Bits.{bit}
-use Rattle.rules.specs.Record.{State, stored}
+use Rattle.rules.specs.Record.{State, stored, sound, unpowered}
 use Rattle.rules.specs.Parts.{noBurst}
 use Rattle.rules.specs.Registers.{readAt}
 use Rattle.rules.specs.Play.{optionsOf}
@@ -43,6 +43,17 @@ pub record Fresh (o : Options) (d : ℕ) (m : List ℕ) (s : State) : Type 0 whe
   pub memory : s .memory ≡ m
   -- 01: "Initialise just sets it."
   pub request : s .board .request ≡ true
+
+-- 01: "The unpowered record is all zero.": its numbers, and so it is not sound.
+pub record Zero (b : Board) : Type 0 where
+  pub levels : (k : ℕ) → k < 20 → getD (b .core .outputs .levels) k 1 ≡ 0
+  pub registers : (readAt b 0x00 ≡ 0) × (readAt b 0x04 ≡ 0) × (readAt b 0x08 ≡ 0) × (readAt b 0x10 ≡ 0) × (readAt b 0x1C ≡ 0)
+  pub fitted : b .size ≡ record { fitted = 0; code = 0 }
+  pub ring : b .ring ≡ record { first = 0; count = 0 }
+  pub unsound : sound b ≡ false
+
+abbrev pub Unpowered-zero : Type 0
+Unpowered-zero = Zero unpowered
 
 -- 01: "Power-up does the same."
 abbrev pub Power-up-fresh : Type 0

@@ -1,7 +1,7 @@
 -- What becomes of a value written to 18h.
 use Prim.Native.Nat.{ℕ, _%_, _≤_, _<_}
 use mathlib.Core.Path.{_≡_}
-use mathlib.Core.Logic.{_↔_}
+use mathlib.Core.Logic.{_≢_, _↔_}
 use mathlib.Core.Bool.{true}
 use mathlib.Core.List.{[], _∷_, _++_}
 use lib.ListN.{length}
@@ -10,6 +10,7 @@ use Rattle.rules.specs.Record.{State, stored, activeSize, valueSpan}
 use Rattle.rules.specs.Parts.{withLost}
 use Rattle.rules.specs.Refusals.{refusal}
 use Rattle.rules.specs.Step.{Outcome, step}
+use Rattle.rules.specs.Laws.Refused.{SameRoom}
 use Rattle.rules.specs.Laws.Moved.{Closed}
 
 -- 01: "if closed, FRAME OVERFLOW (D17) is set and the value lost; else if full, BUFFER OVERFLOW (D16); else it is stored."
@@ -27,6 +28,8 @@ pub record Loaded (s : State) (v : ℕ) (o : Outcome) : Type 0 where
   pub lostToClosed : o .answer .fate ≡ 3
       → (stored (o .state) ≡ stored s)
       × (o .state .board .core ≡ withLost (record { full = s .board .core .lost .full; closed = true }) (s .board .core))
+  pub lostRoom : o .answer .fate ≢ 1 → SameRoom s (o .state)
+  pub size : o .state .board .size ≡ s .board .size
 
 abbrev pub Load-loaded : Type 0
 Load-loaded =

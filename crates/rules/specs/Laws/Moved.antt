@@ -12,6 +12,7 @@ use lib.ListN.{length, getD, take, drop}
 use Rattle.rules.specs.Types.{Board, Core, Event, powerUp, write, read, signal, Signal, tick, outside, trigger, passed, failed, settled}
 use Rattle.rules.specs.Bits.{bit}
 use Rattle.rules.specs.Record.{State, stored, levelSpan}
+use Rattle.rules.specs.Parts.{withBurst, withLoad, withOutputs}
 use Rattle.rules.specs.Clocks.{targets}
 use Rattle.rules.specs.Refusals.{refusal}
 use Rattle.rules.specs.Step.{Outcome, step}
@@ -84,7 +85,7 @@ Sequential-target =
 pub record ActiveAscending (mask : ℕ) (ks : List ℕ) : Type 0 where
   pub active : (k : ℕ) → Among k ks ↔ (bit k mask ≡ true)
   pub ascending : (i j : ℕ) → i < j → j < length ks → getD ks i 0 < getD ks j 0
-  pub ones : length ks ≡ ones mask
+  pub asManyAsOnes : length ks ≡ ones mask
 
 abbrev pub Simultaneous-targets : Type 0
 Simultaneous-targets =
@@ -119,6 +120,16 @@ pub record Moves (s : State) (o : Outcome) : Type 0 where
   pub single : s .board .core .control .simultaneous ≡ false
       → o .state .board .core .outputs .cursor ≡ getD (targets (s .board .core)) 0 0 + 1
   pub group : s .board .core .control .simultaneous ≡ true → o .state .board .core .outputs .cursor ≡ 0
+  -- and no more: but for burst, load, cursor and levels the core is as it was, and so is the size
+  pub rest : o .state .board .core
+      ≡ withBurst (o .state .board .core .burst)
+      (withLoad (o .state .board .core .load)
+      (withOutputs (record {
+        mask = s .board .core .outputs .mask;
+        cursor = o .state .board .core .outputs .cursor;
+        levels = o .state .board .core .outputs .levels;
+      }) (s .board .core)))
+  pub size : o .state .board .size ≡ s .board .size
 
 -- The twenty levels are twenty: the record's array has no other length.
 abbrev pub Clock-moves : Type 0
@@ -136,7 +147,7 @@ Clock-moves =
 abbrev pub Moved-most : Type 0
 Moved-most = (s : State) (e : Event) → (step s e) .answer .moved ≤ 20
 
--- the events that may move values: clocks, and BOR writes
+-- the events that may move values: clocks, and BOR writes with D7 set
 abbrev pub MayMove : Event → Type 0
 MayMove (powerUp x) = ⊥
 MayMove (write o v) = (o ≡ 0x0C) × (bit 7 v ≡ true)
@@ -156,7 +167,7 @@ Moved-none = (s : State) (e : Event) → ¬ MayMove e → (step s e) .answer .mo
 -- A BOR write with D7 set does what the same write without it does, followed by an outside clock; the interrupt aside, which sees
 -- one event here and two there.
 pub record SameButRequest (o o′ : Outcome) : Type 0 where
-  pub moved : o .answer .moved ≡ o′ .answer .moved
+  pub answer : o .answer ≡ o′ .answer
   pub core : o .state .board .core ≡ o′ .state .board .core
   pub size : o .state .board .size ≡ o′ .state .board .size
   pub ring : o .state .board .ring ≡ o′ .state .board .ring

@@ -3,7 +3,7 @@ use Prim.Native.Nat.{ℕ}
 use mathlib.Core.Path.{_≡_}
 use mathlib.Core.Logic.{_≢_, _⊎_}
 use mathlib.Core.Bool.{true, false}
-use Rattle.rules.specs.Types.{Board, Event, read, signal, Signal, tick, outside, trigger, passed, failed, settled}
+use Rattle.rules.specs.Types.{Board, Event, powerUp, write, read, signal, Signal, tick, outside, trigger, passed, failed, settled}
 use Rattle.rules.specs.Record.{State}
 use Rattle.rules.specs.Parts.{withBurst}
 use Rattle.rules.specs.Registers.{readAt}
@@ -71,6 +71,16 @@ Unaccepted-nothing =
     (s : State) (x : Signal)
     → ¬ Accepted x (s .board)
     → Nothing s (step s (signal x))
+
+-- 01: "register value (0 unless a read)"
+abbrev pub IsRead : Event → Type 0
+IsRead (powerUp x) = ⊥
+IsRead (write a v) = ⊥
+IsRead (read a) = Unit {0}
+IsRead (signal x) = ⊥
+
+abbrev pub Register-none : Type 0
+Register-none = (s : State) (e : Event) → ¬ IsRead e → (step s e) .answer .register ≡ 0
 
 -- A read answers the register and changes nothing.
 abbrev pub Read-nothing : Type 0
