@@ -138,7 +138,10 @@ module _ (s : State) (e : Event) (k : ¬ Initialises e) where
         changed = λ z. unfold s′ done boardBefore requestAfter in rw (initialises-not e k, ne-eqb _ _ (λ y. z (sym y))) (held (s .board .request) e);
         rise = λ z n c. edge-of z ∙ rw (not-true before (λ t. n ((condition-exactly s) .0 t)), (behind-exactly) .1 c);
         fall = λ z c n. edge-of z ∙ rw ((condition-exactly s) .1 c, not-true behind (λ t. n ((behind-exactly) .0 t)));
-        level = λ z i. subst (Held e (s .board .request)) (sym (edge-of z ∙ ap (λ (t : Bool). edge t behind (requestHeld (s .board .request) e)) (equal i) ∙ edge-same behind _)) (held (s .board .request) e);
+        level = λ z i.
+            let q = requestHeld (s .board .request) e in
+            let same = edge-of z ∙ ap (λ (t : Bool). edge t behind q) (equal i) ∙ edge-same behind q in
+            subst (Held e (s .board .request)) (sym same) (held (s .board .request) e);
       }
     where
       equal : (Condition s ↔ Condition s′) → before ≡ behind

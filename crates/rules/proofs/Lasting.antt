@@ -205,7 +205,7 @@ data-sound c full v h = either SoundPlay (closed c) (lost-sound c _ h) (either S
 
 -- D8, D9 and D11, and the loading state
 asked-sound : (d8 d9 d11 : Bool) (x : Load) → (x .pending ≡ true → x .opened ≡ false)
-    → SoundLoad d8 (cond (d8 && not ((cond (d8 && not d11) x noLoad) .opened)) (record { pending = d9; opened = (cond (d8 && not d11) x noLoad) .opened }) (cond (d8 && not d11) x noLoad))
+    → (let y = cond (d8 && not d11) x noLoad in SoundLoad d8 (cond (d8 && not (y .opened)) (record { pending = d9; opened = y .opened }) y))
 asked-sound false d9 d11 x f = record { pending = λ e. absurd (false≢true e); opened = λ e. absurd (false≢true e); apart = λ e. absurd (false≢true e) }
 asked-sound true d9 true x f = record { pending = λ e. refl; opened = λ e. refl; apart = λ e. refl }
 asked-sound true d9 false x f = go (x .opened) refl

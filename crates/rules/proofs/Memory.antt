@@ -41,7 +41,11 @@ kept-nothing s o e =
 same-above : (d i : ℕ) (m m′ : List ℕ) → drop d m′ ≡ drop d m → d ≤ i → getD m′ i 0 ≡ getD m i 0
 same-above d i m m′ e h =
     let z : d + (i - d) ≡ i = omega arith in
-    ap (λ (x : ℕ). getD m′ x 0) (sym z) ∙ sym (getD-drop d m′ (i - d) 0) ∙ ap (λ (l : List ℕ). getD l (i - d) 0) e ∙ getD-drop d m (i - d) 0 ∙ ap (λ (x : ℕ). getD m x 0) z
+    ap (λ (x : ℕ). getD m′ x 0) (sym z)
+    ∙ sym (getD-drop d m′ (i - d) 0)
+    ∙ ap (λ (l : List ℕ). getD l (i - d) 0) e
+    ∙ getD-drop d m (i - d) 0
+    ∙ ap (λ (x : ℕ). getD m x 0) z
 
 done-memory : (s : State) (e : Event) → Ordinary e → refusal s e ≡ 0 → MemoryKept s (done s e)
 done-memory s e o h =

@@ -112,22 +112,28 @@ condition-same b b′ c n low high =
     ∙ (λ i. condition (record { core = c i; size = b′ .size; request = b′ .request; ring = record { first = b′ .ring .first; count = n i } }))
 
 request-same : (e e′ : Event) (b b′ a a′ : Board) → OneToRules e e′
-    → b .core ≡ b′ .core → b .ring .count ≡ b′ .ring .count → a .core ≡ a′ .core → a .ring .count ≡ a′ .ring .count → a .request ≡ a′ .request
+    → b .core ≡ b′ .core → b .ring .count ≡ b′ .ring .count
+    → a .core ≡ a′ .core → a .ring .count ≡ a′ .ring .count → a .request ≡ a′ .request
     → b .core .control .selection ≢ 3 → b .core .control .selection ≢ 4 → requestAfter e b a ≡ requestAfter e′ b′ a′
 unfolding requestAfter
-request-same e e′ b b′ a a′ l bc bn ac an q low high = go (eqb (b .core .control .selection) (a .core .control .selection)) refl
+request-same e e′ b b′ a a′ l bc bn ac an q low high = go (eqb (selection b) (selection a)) refl
   where
+    selection : Board → ℕ
+    selection x = x .core .control .selection
+
     -- the selections of both runs
-    selections : eqb (b .core .control .selection) (a .core .control .selection) ≡ eqb (b′ .core .control .selection) (a′ .core .control .selection)
+    selections : eqb (selection b) (selection a) ≡ eqb (selection b′) (selection a′)
     selections = λ i. eqb (bc i .control .selection) (ac i .control .selection)
 
-    go : (t : Bool) → eqb (b .core .control .selection) (a .core .control .selection) ≡ t
-        → cond (initialises e) true (cond (eqb (b .core .control .selection) (a .core .control .selection)) (edge (condition b) (condition a) (a .request)) (a .request))
-        ≡ cond (initialises e′) true (cond (eqb (b′ .core .control .selection) (a′ .core .control .selection)) (edge (condition b′) (condition a′) (a′ .request)) (a′ .request))
+    go : (t : Bool) → eqb (selection b) (selection a) ≡ t
+        → cond (initialises e) true (cond (eqb (selection b) (selection a)) (edge (condition b) (condition a) (a .request)) (a .request))
+        ≡ cond (initialises e′) true (cond (eqb (selection b′) (selection a′)) (edge (condition b′) (condition a′) (a′ .request)) (a′ .request))
     go false h = rw (h, sym selections ∙ h, l .initial, q)
     go true h =
-        let z : b .core .control .selection ≡ a .core .control .selection = eqb-true _ _ h in
-        rw (h, sym selections ∙ h, l .initial, condition-same b b′ bc bn low high, condition-same a a′ ac an (λ x. low (z ∙ x)) (λ x. high (z ∙ x)), q)
+        let z : selection b ≡ selection a = eqb-true _ _ h in
+        let before = condition-same b b′ bc bn low high in
+        let behind = condition-same a a′ ac an (λ x. low (z ∙ x)) (λ x. high (z ∙ x)) in
+        rw (h, sym selections ∙ h, l .initial, before, behind, q)
 
 -- ---- What one event does to both
 
@@ -170,7 +176,8 @@ done-together s s′ e e′ o o′ l r f f′ k =
       };
       request = λ q h.
           request-same e e′ (s .board) (s′ .board) (boardBefore s e) (boardBefore s′ e′) l (r .core) (counts s s′ (r .lists))
-          (ap (λ (x : Play). x .core) p) (counts ((done s e) .state) ((done s′ e′) .state) ls) (l .held (s .board .request) ∙ ap (λ (x : Bool). requestHeld x e′) h)
+          (ap (λ (x : Play). x .core) p) (counts ((done s e) .state) ((done s′ e′) .state) ls)
+          (l .held (s .board .request) ∙ ap (λ (x : Bool). requestHeld x e′) h)
           (q .low) (q .high);
     }
 
@@ -183,7 +190,8 @@ ordinary-together s s′ {e} {e′} w o o′ r k = go (soundCore (s .board .core
     l = one-to-rules w
 
     -- the two numbers are one, and 0 only where both fit
-    same-number : refusal s e ≡ refusal s′ e′ → (refusal s e ≡ 0 → Fit s × Fit s′) → (z : Bool) → eqb (refusal s e) 0 ≡ z → Together s s′ (step s e) (step s′ e′)
+    same-number : refusal s e ≡ refusal s′ e′ → (refusal s e ≡ 0 → Fit s × Fit s′)
+        → (z : Bool) → eqb (refusal s e) 0 ≡ z → Together s s′ (step s e) (step s′ e′)
     same-number q f true z =
         let h : refusal s e ≡ 0 = eqb-true (refusal s e) 0 z in
         let h′ : refusal s′ e′ ≡ 0 = sym q ∙ h in
@@ -248,7 +256,8 @@ step-together s s′ (deeper x d h) r a a′ n = power-up-together s s′ (deepe
 step-together s s′ (larger v v′ h l) r a a′ n = ordinary-together s s′ (larger v v′ h l) tt tt r n
 step-together s s′ (same e) r a a′ n = each e a a′ n
   where
-    each : (e : Event) → PowerUpAccepted e (step s e) → PowerUpAccepted e (step s′ e) → (step s e) .answer .fate ≢ 2 → Together s s′ (step s e) (step s′ e)
+    each : (e : Event) → PowerUpAccepted e (step s e) → PowerUpAccepted e (step s′ e)
+        → (step s e) .answer .fate ≢ 2 → Together s s′ (step s e) (step s′ e)
     each (powerUp x) a a′ n = power-up-together s s′ (same (powerUp x)) a a′
     each (write o v) a a′ n = ordinary-together s s′ (same (write o v)) tt tt r n
     each (read o) a a′ n = ordinary-together s s′ (same (read o)) tt tt r n

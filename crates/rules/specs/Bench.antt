@@ -144,7 +144,8 @@ table =
     }
     -- "burst, one channel, A000h then B000h with EOF: tick moves 0; trigger; two ticks move 1 each; D1 is 1 again"
     ∷ record {
-      session = on ∷ bcr 0x11 ∷ mask 1 ∷ bor 0x20 ∷ load 0xA000 ∷ load 0x1B000 ∷ bcr? ∷ clk ∷ signal trigger ∷ bcr? ∷ clk ∷ bcr? ∷ clk ∷ bcr? ∷ [];
+      session = on ∷ bcr 0x11 ∷ mask 1 ∷ bor 0x20 ∷ load 0xA000 ∷ load 0x1B000
+          ∷ bcr? ∷ clk ∷ signal trigger ∷ bcr? ∷ clk ∷ bcr? ∷ clk ∷ bcr? ∷ [];
       sights = moved shows (0 ∷ 0 ∷ 1 ∷ 1 ∷ []) ∷ bitRead 1 shows (1 ∷ 0 ∷ 0 ∷ 1 ∷ [])
           ∷ levels shows (0xB000 ∷ 0x8000 ∷ 0x8000 ∷ []) ∷ held shows [] ∷ [];
     }

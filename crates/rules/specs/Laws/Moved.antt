@@ -147,6 +147,10 @@ Clock-moves =
 abbrev pub Moved-most : Type 0
 Moved-most = (s : State) (e : Event) → (step s e) .answer .moved ≤ 20
 
+-- Nothing, or the whole group: in sequential mode 0 or 1, in simultaneous mode 0 or as many as the mask has ones.
+abbrev pub Moved-group : Type 0
+Moved-group = (s : State) (e : Event) → ((step s e) .answer .moved ≡ 0) ⊎ ((step s e) .answer .moved ≡ groupSize (s .board))
+
 -- the events that may move values: clocks, and BOR writes with D7 set
 abbrev pub MayMove : Event → Type 0
 MayMove (powerUp x) = ⊥
