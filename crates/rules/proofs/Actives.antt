@@ -104,7 +104,7 @@ ones-zero = refl
 
 -- shifted k down, the mask has as many ones as channels from k up are active
 pub active-ones : (n k mask : ℕ) → mask / 2 ^ k < 2 ^ n → length (active n k mask) ≡ ones (mask / 2 ^ k)
-unfolding active bit
+unfolding active
 active-ones zero k mask h =
     let e : mask / 2 ^ k ≡ 0 = omega arith in
     rw e (sym ones-zero)

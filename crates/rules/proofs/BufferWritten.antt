@@ -8,7 +8,7 @@ use Rattle.rules.specs.Bits.{bit, bitsOf}
 use Rattle.rules.specs.Record.{State, depth}
 use Rattle.rules.specs.Clocks.{Op, keep, clear, none as noFate, Play}
 use Rattle.rules.specs.Registers.{bufferBits, registers, readFrom}
-use Rattle.rules.specs.Writes.{modeOf, lostOf, loadKept, loadAsked, bufferOf, tried, writeBuffer, onWrite}
+use Rattle.rules.specs.Writes.{loadKept, loadAsked, bufferOf, tried, writeBuffer, onWrite}
 use Rattle.rules.specs.Play.{play}
 use Rattle.rules.specs.Place.{place}
 use Rattle.rules.specs.Size.{codeOf, sizeAfter}
@@ -28,7 +28,7 @@ unfolding play onWrite writeBuffer tried bufferPlay
 buffer-played s v e = rw e (cond-apply (λ t. bufferPlay t (bufferOf v (s .board .core))) (bit 11 v))
 
 buffer-after : (s : State) (v : ℕ) (q : Bool) → BufferWritten s v (afterPlay s (write 0x0C v) (bufferPlay (bit 11 v) (bufferOf v (s .board .core))) q)
-unfolding bufferPlay bufferOf modeOf lostOf loadKept loadAsked place sizeAfter codeOf registers readFrom bufferBits bitsOf
+unfolding bufferPlay bufferOf loadKept loadAsked place sizeAfter codeOf registers readFrom bufferBits bitsOf
 buffer-after s v q =
     record {
       stored = next (bit-number _ 0 ∙ getD-low 4 0 v (omega arith))

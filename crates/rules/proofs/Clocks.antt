@@ -11,7 +11,7 @@ use lib.ListN.{length, take}
 use Rattle.rules.specs.Types.{Core, Board, signal, Signal, tick, outside, trigger, passed, failed, settled}
 use Rattle.rules.specs.Record.{State, depth, stored}
 use Rattle.rules.specs.Parts.{withBurst, withLoad, withOutputs}
-use Rattle.rules.specs.Clocks.{Op, leave, recirculate, Play, only, closed, clockReady, burstReady, targets, idle, moving, cursorAfter, laid, carriesEof, burstEnds, burstAfter, loadAfter, outgoing, moves, clock, tickAccepted, clockAccepted, onTick, onOutside}
+use Rattle.rules.specs.Clocks.{Op, leave, recirculate, Play, only, closed, burstReady, targets, idle, moving, cursorAfter, laid, carriesEof, burstEnds, burstAfter, loadAfter, outgoing, moves, clock, tickAccepted, clockAccepted, onTick, onOutside}
 use Rattle.rules.specs.Play.{onSignal, play}
 use Rattle.rules.specs.Place.{place}
 use Rattle.rules.specs.Size.{sizeAfter}
@@ -42,7 +42,6 @@ outgoing-closed c n h = rw ((closed-exactly c) .1 h)
 -- ---- Accepted
 
 tick-accepted : (b : Board) → TickAccepted b → tickAccepted (b .core) ≡ true
-unfolding tickAccepted
 tick-accepted b h =
     let inner : Bool = not (b .core .mode .external) in
     let alt : Bool = b .core .clock .alt in
@@ -50,7 +49,6 @@ tick-accepted b h =
     rw (h .enabled, source, h .uncalibrating)
 
 clock-accepted : (b : Board) → ClockAccepted b → clockAccepted (b .core) ≡ true
-unfolding clockAccepted clockReady
 clock-accepted b h = rw (h .enabled, h .external, h .direct, h .settled, h .uncalibrating)
 
 -- an accepted clock, a tick or an outside one, plays `clock`
@@ -74,7 +72,6 @@ module _ (s : State) (sound : Sound (s .board)) where
   held = idle core || ltb (length (stored s)) (length (targets core))
 
   ready-to : held ≡ false → ReadyToMove s
-  unfolding idle burstReady
   ready-to h =
       let a = or-neither (idle core) _ h in
       let enough : length (targets core) ≤ length (stored s) = ltb-false _ _ (a .1) in
@@ -86,7 +83,6 @@ module _ (s : State) (sound : Sound (s .board)) where
       }
 
   ready-from : ReadyToMove s → held ≡ false
-  unfolding idle burstReady
   ready-from h =
       let enough : length (targets core) ≤ length (stored s) = rw (targets-group (s .board) sound) (h .enough) in
       neither-or (idle core) _ (neither-or _ _ (ne-eqb _ _ (h .mask)) (and-not-from _ _ (h .burst))) (le-ltb _ _ enough)

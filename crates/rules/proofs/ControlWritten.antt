@@ -8,7 +8,7 @@ use Rattle.rules.specs.Types.{Calibration, write}
 use Rattle.rules.specs.Bits.{bit, bitsOf}
 use Rattle.rules.specs.Record.{State}
 use Rattle.rules.specs.Registers.{controlBits, registers, readFrom}
-use Rattle.rules.specs.Writes.{controlOf, burstOf, cursorOf, calibrationOf, writeControl, onWrite}
+use Rattle.rules.specs.Writes.{burstOf, cursorOf, calibrationOf, writeControl, onWrite}
 use Rattle.rules.specs.Play.{play}
 use Rattle.rules.specs.Place.{place}
 use Rattle.rules.specs.Size.{codeOf, sizeAfter}
@@ -40,7 +40,7 @@ cursor-unturned false is n h = rw h
 
 control-after : (s : State) (v : ℕ) → ¬ Calibrating s → bit 15 v ≡ false → (q : Bool)
     → ControlWritten s v (afterPlay s (write 0x00 v) (writeControl (s .board .core) v) q)
-unfolding writeControl controlOf burstOf calibrationOf place sizeAfter codeOf registers readFrom controlBits bitsOf
+unfolding writeControl burstOf calibrationOf place sizeAfter codeOf registers readFrom controlBits bitsOf
 control-after s v r e q =
     record {
       stored = next (bit-number _ 0)

@@ -33,7 +33,7 @@ stored-below s i = values-below _ _ _ i _
 -- ---- The test is the words
 
 eof-from : (s : State) (n : ℕ) → AnyEof (take n (stored s)) → carriesEof (take n (stored s)) ≡ true
-unfolding carriesEof bit
+unfolding carriesEof
 eof-from s n h =
     let l : h .index < n = omega (arith, h .inside, length-take n (stored s)) in
     let below : getD (take n (stored s)) (h .index) 0 < valueSpan = rw (getD-take n (stored s) (h .index) 0 l) (stored-below s (h .index)) in
@@ -41,7 +41,7 @@ eof-from s n h =
     (List·getD-map (bit 16) (take n (stored s)) (h .index) 0 ∙ top-bit 16 _ below (h .marked))
 
 eof-to : (vs : List ℕ) → carriesEof vs ≡ true → AnyEof vs
-unfolding carriesEof bit
+unfolding carriesEof
 eof-to vs t =
     let r = some-index (map (bit 16) vs) t in
     record {

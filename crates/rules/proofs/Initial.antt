@@ -11,8 +11,7 @@ use borrow.Author.Tests.{eqb-true, lt-ltb, le-ltb, lt-leb}
 use Rattle.rules.specs.Types.{Settings, Options, Size, Board, powerUp, write}
 use Rattle.rules.specs.Bits.{bit, bitsOf, flag, number}
 use Rattle.rules.specs.Record.{State, activeSize, channels, values, stored}
-use Rattle.rules.specs.Clocks.{closed, clockReady, burstReady}
-use Rattle.rules.specs.Flags.{isEmpty, isLow, isHigh, isFull}
+use Rattle.rules.specs.Flags.{isLow, isHigh, isFull}
 use Rattle.rules.specs.Registers.{controlBits, maskBits, rateBits, bufferBits, optionBits, adjustBits, registers, readFrom, readAt}
 use Rattle.rules.specs.Writes.{initial, initialised, onWrite}
 use Rattle.rules.specs.Play.{optionsOf, play}
@@ -34,15 +33,12 @@ use Rattle.rules.proofs.Played.{step-play}
 -- ---- The flags of an empty buffer
 
 low-empty : (z : Size) → isLow z 0 ≡ true
-unfolding isLow
 low-empty z = lt-ltb _ _ (size-pos z)
 
 high-empty : (z : Size) → isHigh z 0 ≡ false
-unfolding isHigh
 high-empty z = le-ltb (3 * activeSize z) 0 zero-le
 
 full-empty : (z : Size) → isFull z 0 ≡ false
-unfolding isFull
 full-empty z = lt-leb _ _ (size-pos z)
 
 -- ---- The state they leave
@@ -68,7 +64,7 @@ unfolding registers readFrom optionBits number flag
 options-read o b h e = rw e (simp (append-assoc, number-field, number-bitsOf) (omega arith))
 
 fresh-fresh : (o : Options) (d : ℕ) (m : List ℕ) → SoundOptions o → Fresh o d m (fresh o d m)
-unfolding fresh initial channels values stored registers readFrom controlBits maskBits rateBits bufferBits adjustBits closed clockReady burstReady isEmpty number bitsOf bit flag
+unfolding fresh initial channels values stored registers readFrom controlBits maskBits rateBits bufferBits adjustBits number bitsOf flag
 fresh-fresh o d m h =
     record {
       control = refl;

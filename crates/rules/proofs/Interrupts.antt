@@ -11,7 +11,6 @@ use lib.ListN.{length, getD}
 use Rattle.rules.specs.Types.{Board, Event, powerUp, write, read, signal}
 use Rattle.rules.specs.Bits.{bit}
 use Rattle.rules.specs.Record.{State, stored, activeSize}
-use Rattle.rules.specs.Flags.{isEmpty, isLow, isHigh}
 use Rattle.rules.specs.Size.{initialises}
 use Rattle.rules.specs.Interrupt.{conditions, condition, requestHeld, edge, requestAfter}
 use Rattle.rules.specs.Step.{withRequest, boardBefore, done}
@@ -30,7 +29,7 @@ nil-length (x ∷ xs) h = absurd (omega arith)
 module _ (s : State) where
   -- from the flag at the selected number to the condition
   condition-to : (n : ℕ) → selected s ≡ n → getD (conditions (s .board)) n false ≡ true → Condition s
-  unfolding conditions isEmpty isLow isHigh
+  unfolding conditions
   condition-to zero e h = absurd (false≢true h)
   condition-to (suc zero) e h = calibrated e h
   condition-to (suc (suc zero)) e h = empty e (nil-length (stored s) (stored-length s ∙ eqb-true _ _ h))
@@ -42,7 +41,7 @@ module _ (s : State) where
   condition-to (suc (suc (suc (suc (suc (suc (suc (suc n)))))))) e h = absurd (false≢true h)
 
   condition-from : Condition s → condition (s .board) ≡ true
-  unfolding condition conditions isEmpty isLow isHigh
+  unfolding condition conditions
   condition-from (calibrated e h) = rw e h
   condition-from (empty e h) = rw e (eq-eqb _ _ (sym (stored-length s) ∙ ap length h))
   condition-from (low e h) = rw e (lt-ltb (4 * s .board .ring .count) (activeSize (s .board .size)) (omega (arith, stored-length s)))

@@ -13,7 +13,7 @@ use Rattle.rules.specs.Bits.{bit, active, activeFrom, headOr}
 use Rattle.rules.specs.Record.{State, depthOf, channels, optionsInRange, sound, stored}
 use Rattle.rules.specs.Parts.{noBurst, noLoad, remade, withClock, withLost}
 use Rattle.rules.specs.Clocks.{Play, closed, nextChannel, moving, cursorAfter, burstAfter, loadAfter, moves, clock, tickAccepted, clockAccepted, triggerAccepted, onTick, onOutside, onTrigger}
-use Rattle.rules.specs.Writes.{initial, controlOf, burstOf, cursorOf, calibrationOf, writeControl, writeMask, writeRate, writeAdjust, modeOf, lostOf, loadKept, loadAsked, bufferOf, tried, writeBuffer, writeData, onWrite}
+use Rattle.rules.specs.Writes.{initial, burstOf, cursorOf, calibrationOf, writeControl, writeMask, writeRate, writeAdjust, loadKept, loadAsked, bufferOf, tried, writeBuffer, writeData, onWrite}
 use Rattle.rules.specs.Play.{optionsOf, calibrationEnds, settles, onSignal, play}
 use Rattle.rules.specs.Place.{place}
 use Rattle.rules.specs.Size.{sizeAfter}
@@ -132,7 +132,6 @@ unfolding onOutside clock
 outside-sound c buf h = either SoundPlay (clockAccepted c) (moves-sound c buf (moving c buf) h) h
 
 trigger-enabled : (c : Core) → triggerAccepted c ≡ true → c .control .bursts ≡ true
-unfolding triggerAccepted
 trigger-enabled c e =
     let a = and-both (c .control .bursts && not (c .control .barred) && not (c .burst .running)) (not (c .calibration .running)) e in
     let b = and-both (c .control .bursts && not (c .control .barred)) (not (c .burst .running)) (a .0) in
@@ -153,7 +152,7 @@ trigger-sound c h =
 -- ---- Writes keep it
 
 control-sound : (c : Core) (v : ℕ) → SoundCore c → SoundPlay (writeControl c v)
-unfolding writeControl controlOf burstOf cursorOf calibrationOf
+unfolding writeControl burstOf cursorOf calibrationOf
 control-sound c v h =
     resound h
     (record {
@@ -215,7 +214,7 @@ asked-sound true d9 false x f = go (x .opened) refl
     go false e = record { pending = λ _. refl; opened = λ _. refl; apart = λ _. refl }
 
 buffer-core-sound : (c : Core) (v : ℕ) → SoundCore c → SoundCore (bufferOf v c)
-unfolding bufferOf modeOf lostOf loadAsked loadKept
+unfolding bufferOf loadAsked loadKept
 buffer-core-sound c v h =
     resound h
     (record {
@@ -292,7 +291,7 @@ done-stands s e o h =
 -- ---- A power-up gives it
 
 pub up-stands : (s : State) (x : Settings) → refusal s (powerUp x) ≡ 0 → Stands ((done s (powerUp x)) .state)
-unfolding refusal rows standing firstOf inRange tooShort done boardBefore play place sizeAfter
+unfolding refusal rows standing firstOf inRange done boardBefore play place sizeAfter
 up-stands s x h =
     let a = cond-zero (not (inRange x)) 0 _ h in
     let b = cond-zero (tooShort (s .memory) (depthOf (x .fitted))) 1 0 (a .1) in

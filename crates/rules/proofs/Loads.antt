@@ -101,7 +101,7 @@ module _ (s : State) (v : ℕ) where
         }
 
     loaded-full : closed (s .board .core) ≡ false → full ≡ true → Loaded s v o
-    unfolding onList full isFull
+    unfolding onList full
     loaded-full c g =
         let t = after-play _ (played-full c g) in
         let f : o .answer .fate ≡ 2 = t .0 in
@@ -119,7 +119,7 @@ module _ (s : State) (v : ℕ) where
         }
 
     loaded-room : closed (s .board .core) ≡ false → full ≡ false → Loaded s v o
-    unfolding onList full isFull
+    unfolding onList full
     loaded-room c g =
         let t = after-play _ (played-room c g) in
         let f : o .answer .fate ≡ 1 = t .0 in
@@ -158,7 +158,7 @@ fate-stored s v f = go (eqb (refusal s (write 0x18 v)) 0) refl
     go false t = absurd (let z : _≡_ {A = ℕ} 0 1 = unfold refused in (rw (step-refused s (write 0x18 v) t) at f) in omega arith)
 
 pub load-place : Load-place
-unfolding full isFull place done boardBefore
+unfolding full place done boardBefore
 load-place s v f =
     let h = fate-stored s v f in
     let st = refusal-stands s (write 0x18 v) tt h in

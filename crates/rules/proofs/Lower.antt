@@ -7,7 +7,7 @@ use native.Mathlib.Nat.{le-refl}
 use lib.Dec.{eqb}
 use Rattle.rules.specs.Types.{Size, Core, Event, powerUp, write, read, signal}
 use Rattle.rules.specs.Bits.{bit}
-use Rattle.rules.specs.Writes.{modeOf, lostOf, loadKept, loadAsked, bufferOf, writeBuffer, onWrite}
+use Rattle.rules.specs.Writes.{loadKept, loadAsked, bufferOf, writeBuffer, onWrite}
 use Rattle.rules.specs.Play.{play}
 use Rattle.rules.specs.Size.{initialises, codeOf, sizeAfter}
 use Rattle.rules.specs.Interrupt.{requestHeld}
@@ -20,7 +20,7 @@ high-bit : (v v′ : ℕ) → v / 16 ≡ v′ / 16 → (k : ℕ) → bit (4 + k)
 high-bit v v′ h k = bit-shift 4 k v ∙ ap (bit k) h ∙ sym (bit-shift 4 k v′)
 
 buffer-same : (c : Core) (buf : List ℕ) (v v′ : ℕ) → v / 16 ≡ v′ / 16 → writeBuffer c buf v ≡ writeBuffer c buf v′
-unfolding writeBuffer bufferOf modeOf lostOf loadAsked loadKept
+unfolding writeBuffer bufferOf loadAsked loadKept
 buffer-same c buf v v′ h = let d = high-bit v v′ h in rw (d 0, d 1, d 3, d 4, d 5, d 7, d 12, d 13)
 
 cond-mono : (t : Bool) {m n m′ n′ : ℕ} → m ≤ m′ → n ≤ n′ → cond t m n ≤ cond t m′ n′

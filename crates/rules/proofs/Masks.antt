@@ -15,11 +15,9 @@ use Rattle.rules.proofs.Choice.{not-true}
 
 -- bit n + k of v is bit k of v over 2^n
 pub bit-shift : (n k v : ℕ) → bit (n + k) v ≡ bit k (v / 2 ^ n)
-unfolding bit
 bit-shift n k v = ap (λ (x : ℕ). eqb (x % 2) 1) (sym (shr-shr v n k))
 
 pub bit-below : (n k v : ℕ) → v < 2 ^ n → n ≤ k → bit k v ≡ false
-unfolding bit
 bit-below n k v h l =
     let p : 2 ^ n ≤ 2 ^ k = pow-mono l in
     let z : v / 2 ^ k ≡ 0 = div-eq-of-lt (omega arith) in
@@ -28,7 +26,6 @@ bit-below n k v h l =
 -- ---- The lowest bit, and the others as bits of the half
 
 bit-even : (v : ℕ) → bit 0 v ≡ false → v % 2 ≡ 0
-unfolding bit
 bit-even v z =
     let e : v % 2 ≢ 1 = eqb-false (v % 2) 1 (ap (λ (x : ℕ). eqb (x % 2) 1) (sym (div-one v)) ∙ z) in
     omega arith
@@ -40,7 +37,6 @@ bit-suc k v = ap (λ (x : ℕ). bit x v) (sym (one-add k)) ∙ bit-shift 1 k v
 
 -- bit n of a number of n + 1 bits is set exactly when the number is at least 2^n
 pub top-bit : (n v : ℕ) → v < 2 ^ (1 + n) → 2 ^ n ≤ v → bit n v ≡ true
-unfolding bit
 top-bit n v h l =
     let q : v / 2 ^ n < 2 = shr-lt 1 n h in
     let p : 1 ≤ v / 2 ^ n = (le-div-iff-mul-le (pow-pos n)) .1 (rw one-mul l) in
@@ -59,12 +55,10 @@ half-added : (n v : ℕ) → (v + 2 ^ suc n) / 2 ≡ v / 2 + 2 ^ n
 half-added n v = omega arith
 
 pub bit-added : (n v : ℕ) → bit n v ≡ false → bit n (v + 2 ^ n) ≡ true
-unfolding bit
 bit-added zero v z = rw div-one (eq-eqb ((v + 1) % 2) 1 (omega (arith, bit-even v z)))
 bit-added (suc n) v z = bit-suc n _ ∙ ap (bit n) (half-added n v) ∙ bit-added n (v / 2) (sym (bit-suc n v) ∙ z)
 
 pub bit-others : (n k v : ℕ) → bit n v ≡ false → k ≢ n → bit k (v + 2 ^ n) ≡ bit k v
-unfolding bit
 bit-others zero zero v z d = absurd (d refl)
 bit-others zero (suc k) v z d =
     let e : (v + 1) / 2 ≡ v / 2 = omega (arith, bit-even v z) in

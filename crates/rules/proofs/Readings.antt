@@ -29,13 +29,12 @@ flag-eqb (suc zero) h = refl
 flag-eqb (suc (suc r)) h = absurd (omega arith)
 
 pub flag-bit : (k v : ℕ) → flag (bit k v) ≡ v / 2 ^ k % 2
-unfolding bit
 flag-bit k v = flag-eqb (v / 2 ^ k % 2) (omega arith)
 
 -- ---- Bit by bit
 
 bit-head : (b : Bool) (n : ℕ) → bit 0 (flag b + 2 * n) ≡ b
-unfolding bit flag
+unfolding flag
 bit-head true n = eq-eqb ((1 + 2 * n) / 1 % 2) 1 (omega arith)
 bit-head false n = ne-eqb ((0 + 2 * n) / 1 % 2) 1 (omega arith)
 

@@ -64,7 +64,6 @@ module _ (s : State) where
   -- the tests for 3 and 2 come first, whatever the event's own number is
   stands-to : (e : Event) (own : ℕ) → Ordinary e → (Stands s → Given s e own)
       → Given s e (cond (not (sound (s .board))) 3 (cond (tooShort (s .memory) (depth (s .board))) 2 own))
-  unfolding tooShort
   stands-to e own o f =
       cases (Given s e) (not (sound (s .board))) (λ h. unsound o (λ k. not-both (sound (s .board)) h ((sound-exactly (s .board)) .1 k))) (λ h.
       let k = (sound-exactly (s .board)) .0 (not-not (sound (s .board)) h) in
@@ -78,7 +77,6 @@ module _ (s : State) where
   an-offset o h = offset-to o (not-not (isOffset o) h)
 
   write-to : (o v : ℕ) → Stands s → Given s (write o v) (cond (not (isOffset o)) 4 (cond (isReadOnly o) 5 (cond (s .board .core .calibration .running) 6 0)))
-  unfolding isReadOnly
   write-to o v st =
       cases (Given s (write o v)) (not (isOffset o)) (λ h. noSuchWrite st (no-offset o h)) (λ h.
       cases (Given s (write o v)) (eqb o 0x10 || eqb o 0x14)
@@ -122,18 +120,16 @@ module _ (s : State) where
   -- ---- From the table to the number
 
   stands-own : Stands s → (own : ℕ) → cond (not (sound (s .board))) 3 (cond (tooShort (s .memory) (depth (s .board))) 2 own) ≡ own
-  unfolding tooShort
   stands-own st own = rw ((sound-exactly (s .board)) .1 (st .sound), le-ltb _ _ (st .enough))
 
   offset-none : (o : ℕ) → ¬ Offset o → isOffset o ≡ false
   offset-none o h = not-true _ (λ k. h (offset-to o k))
 
   open-offset : (o : ℕ) → o ≢ 0x10 → o ≢ 0x14 → isReadOnly o ≡ false
-  unfolding isReadOnly
   open-offset o h k = rw (ne-eqb o 0x10 h, ne-eqb o 0x14 k)
 
   shut-offset : (o : ℕ) → (o ≡ 0x10) ⊎ (o ≡ 0x14) → (isOffset o ≡ true) × (isReadOnly o ≡ true)
-  unfolding isReadOnly isOffset registers some
+  unfolding isOffset registers some
   shut-offset o (inl e) = (rw e, rw e)
   shut-offset o (inr e) = (rw e, rw e)
 
@@ -142,7 +138,6 @@ module _ (s : State) where
 
   short-second : Sound (s .board) → length (s .memory) < depth (s .board) → (n : ℕ)
       → cond (not (sound (s .board))) 3 (cond (tooShort (s .memory) (depth (s .board))) 2 n) ≡ 2
-  unfolding tooShort
   short-second h l n = rw ((sound-exactly (s .board)) .1 h, lt-ltb _ _ l)
 
   unsound-any : (e : Event) → Ordinary e → ¬ Sound (s .board) → refusal s e ≡ 3
@@ -173,7 +168,7 @@ module _ (s : State) where
   number : {e : Event} {n : ℕ} → Given s e n → refusal s e ≡ n
   unfolding refusal rows standing firstOf
   number (badSetting {x} h) = rw (not-true (inRange x) (λ k. h (range-to x k)))
-  number (shortForPowerUp {x} h l) = unfold tooShort in rw (range-from x h, lt-ltb _ _ l)
+  number (shortForPowerUp {x} h l) = rw (range-from x h, lt-ltb _ _ l)
   number (short {e} o h l) = short-any e o h l
   number (unsound {e} o h) = unsound-any e o h
   number (noSuchWrite {o} {v} st h) = stands-own st _ ∙ rw (offset-none o h)
@@ -182,7 +177,7 @@ module _ (s : State) where
   number (calibrating {o} {v} st h m m′ c) = stands-own st _ ∙ rw (offset-from o h, open-offset o m m′, c)
   number (noCalibration {x} w st h) = stands-own st _ ∙ rw (ends-is x w, not-true _ h)
   number (notSettling st h) = unfold endsNothing in stands-own st _ ∙ rw h
-  number (poweredUp {x} h l) = unfold tooShort in rw (range-from x h, le-ltb _ _ l)
+  number (poweredUp {x} h l) = rw (range-from x h, le-ltb _ _ l)
   number (written {o} {v} st h m m′ c) = stands-own st _ ∙ rw (offset-from o h, open-offset o m m′, not-true _ c)
   number (readOut {o} st h) = stands-own st _ ∙ rw (offset-from o h)
   number (heard {x} w st) = stands-own st _ ∙ rw (heard-none x w)
@@ -195,7 +190,6 @@ refusal-exactly s e n = (λ h. subst (Given s e) h (given s e), number s)
 -- ---- An event that is done found a sound record over enough memory
 
 zero-stands : (s : State) (n : ℕ) → cond (not (sound (s .board))) 3 (cond (tooShort (s .memory) (depth (s .board))) 2 n) ≡ 0 → Stands s
-unfolding tooShort
 zero-stands s n h =
     let a = cond-zero (not (sound (s .board))) 2 _ h in
     let b = cond-zero (ltb (length (s .memory)) (depth (s .board))) 1 n (a .1) in

@@ -29,7 +29,6 @@ refused-nothing s e h = step-cases (Nothing s) s e (λ z. absurd (h (refusal-ans
 -- ---- Not accepted
 
 tick-to : (b : Board) → tickAccepted (b .core) ≡ true → TickAccepted b
-unfolding tickAccepted
 tick-to b h =
     let c = b .core in
     let t = and-both (c .mode .enabled && (not (c .mode .external) || c .clock .alt)) (not (c .calibration .running)) h in
@@ -41,7 +40,6 @@ tick-to b h =
     }
 
 clock-to : (b : Board) → clockAccepted (b .core) ≡ true → ClockAccepted b
-unfolding clockAccepted
 clock-to b h =
     let c = b .core in
     let t = and-both (c .mode .enabled && c .mode .external && not (c .clock .alt)) (clockReady c) h in
@@ -51,7 +49,6 @@ clock-to b h =
     record { enabled = w .0; external = w .1; direct = not-true _ (not-both _ (u .1)); settled = r .1; uncalibrating = r .2 }
 
 trigger-to : (b : Board) → triggerAccepted (b .core) ≡ true → TriggerAccepted b
-unfolding triggerAccepted
 trigger-to b h =
     let c = b .core in
     let t = and-both (c .control .bursts && not (c .control .barred) && not (c .burst .running)) (not (c .calibration .running)) h in
@@ -65,7 +62,6 @@ trigger-to b h =
     }
 
 trigger-from : (b : Board) → TriggerAccepted b → triggerAccepted (b .core) ≡ true
-unfolding triggerAccepted
 trigger-from b h = rw (h .bursts, h .unbarred, h .resting, h .uncalibrating)
 
 unaccepted-plays : (s : State) (x : Signal) → ¬ Accepted x (s .board) → played s (signal x) ≡ only (s .board .core)

@@ -11,7 +11,6 @@ use lib.ListN.{length}
 use Rattle.rules.specs.Types.{Core}
 use Rattle.rules.specs.Bits.{bitsOf, flag, number}
 use Rattle.rules.specs.Clocks.{closed}
-use Rattle.rules.specs.Flags.{isEmpty, isLow, isHigh, isFull}
 use Rattle.rules.specs.Registers.{controlBits, maskBits, rateBits, bufferBits, optionBits, adjustBits, registers, readFrom}
 use Rattle.rules.specs.Laws.Moved.{Closed}
 use Rattle.rules.specs.Laws.Readings.{Control-read, Buffer-read, Fields-read}
@@ -65,7 +64,7 @@ control-read b =
     }
 
 pub buffer-read : Buffer-read
-unfolding registers readFrom bufferBits bitsOf isEmpty isLow isHigh isFull
+unfolding registers readFrom bufferBits bitsOf
 buffer-read b =
     let field = getD-bitsOf 4 (b .size .code) in
     record {

@@ -41,9 +41,7 @@ size-mono s t h = let k : 2 ^ min (s .code) (s .fitted) ≤ 2 ^ min (t .code) (t
 -- ---- Full
 
 pub full-mono : (s t : Size) (n : ℕ) → s ⊑ t → isFull s n ≡ false → isFull t n ≡ false
-unfolding isFull
 full-mono s t n h e = lt-leb (activeSize t) n (omega (arith, leb-false (activeSize s) n e, size-mono s t h))
 
 pub full-room : (s : Size) (n : ℕ) → isFull s n ≡ false → n < depthOf (s .fitted)
-unfolding isFull
 full-room s n e = omega (arith, leb-false (activeSize s) n e, size-depth s)

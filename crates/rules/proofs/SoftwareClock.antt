@@ -8,7 +8,7 @@ use Rattle.rules.specs.Types.{Core, Event, write, signal, outside}
 use Rattle.rules.specs.Bits.{bit}
 use Rattle.rules.specs.Record.{State, depth, stored}
 use Rattle.rules.specs.Clocks.{clear, none, fateNumber, Play, only, moving, moves, clock, clockAccepted, onOutside}
-use Rattle.rules.specs.Writes.{modeOf, lostOf, loadKept, loadAsked, bufferOf, tried, writeBuffer, onWrite}
+use Rattle.rules.specs.Writes.{loadKept, loadAsked, bufferOf, tried, writeBuffer, onWrite}
 use Rattle.rules.specs.Play.{onSignal, play}
 use Rattle.rules.specs.Place.{Place, place}
 use Rattle.rules.specs.Size.{codeOf, sizeAfter}
@@ -50,7 +50,7 @@ outside-empty c =
 module _ (c : Core) (buf : List ℕ) (v : ℕ) (z : bit 7 v ≡ false) where
   -- D7 is read for the clock alone
   buffer-same : bufferOf (v + 0x80) c ≡ bufferOf v c
-  unfolding bufferOf modeOf lostOf loadKept loadAsked
+  unfolding bufferOf loadKept loadAsked
   buffer-same =
       rw (
         bit-others 7 4 v z (omega arith),

@@ -11,7 +11,6 @@ not-from : (t : Bool) → t ≡ false → not t ≡ true
 not-from t h = rw h
 
 pub closed-exactly : (c : Core) → (closed c ≡ true) ↔ Closed c
-unfolding closed
 closed-exactly c = (
   λ h.
       let t = and-both (c .mode .circular) (not (c .load .opened)) h in
@@ -23,7 +22,6 @@ pub closed-not : (c : Core) → (closed c ≡ false) ↔ (¬ Closed c)
 closed-not c = (λ h k. true≢false (sym ((closed-exactly c) .1 k) ∙ h), λ h. not-true _ (λ k. h ((closed-exactly c) .0 k)))
 
 pub burst-ready-exactly : (c : Core) → (burstReady c ≡ true) ↔ ((c .control .bursts ≡ true) × (c .burst .running ≡ false))
-unfolding burstReady
 burst-ready-exactly c = (
   λ h. let t = and-both (c .control .bursts) (not (c .burst .running)) h in (t .0, not-true _ (not-both _ (t .1))),
   λ h. both-and _ _ (h .0) (not-from _ (h .1)),
@@ -31,7 +29,6 @@ burst-ready-exactly c = (
 
 pub clock-ready-exactly : (c : Core)
     → (clockReady c ≡ true) ↔ ((c .mode .external ≡ true) × (c .clock .settling ≡ false) × (c .calibration .running ≡ false))
-unfolding clockReady
 clock-ready-exactly c = (
   λ h.
       let t = and-both (c .mode .external && not (c .clock .settling)) (not (c .calibration .running)) h in

@@ -49,7 +49,7 @@ refusal-own s (read o) h = refl
 refusal-own s (signal x) h = refl
 
 refusal-fit : (s : State) (e : Event) → Ordinary e → soundCore (s .board .core) ≡ true → Fit s → refusal s e ≡ own (s .board .core) e
-unfolding sound tooShort
+unfolding sound
 refusal-fit s e o h f = refusal-own s e o ∙ rw (h, fit-sound s f, le-ltb _ _ (f .good .enough))
 
 refusal-unsound : (s : State) (e : Event) → Ordinary e → soundCore (s .board .core) ≡ false → refusal s e ≡ 3

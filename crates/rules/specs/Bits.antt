@@ -13,7 +13,7 @@ use lib.Dec.{eqb}
 
 -- ---- A number's bits
 
-unfoldable pub bit : ℕ → ℕ → Bool
+abbrev pub bit : ℕ → ℕ → Bool
 bit k v = eqb (v / 2 ^ k % 2) 1
 
 unfoldable pub bitsOf : ℕ → ℕ → List Bool
@@ -29,7 +29,7 @@ number [] = 0
 number (b ∷ bs) = flag b + 2 * number bs
 
 example-number : number (bitsOf 4 6) ≡ 6
-unfolding number bitsOf bit flag
+unfolding number bitsOf flag
 example-number = refl
 
 -- ---- Channels
@@ -43,7 +43,7 @@ abbrev pub activeFrom : ℕ → ℕ → List ℕ
 activeFrom k mask = active (20 - k) k mask
 
 example-active : activeFrom 3 0x50008 ≡ 3 ∷ 16 ∷ 18 ∷ []
-unfolding active bit
+unfolding active
 example-active = refl
 
 unfoldable pub headOr : ℕ → List ℕ → ℕ

@@ -43,15 +43,15 @@ only c = record { core = c; op = keep; moved = 0; fate = none }
 -- ---- States that clocks look at
 
 -- 01: "closed = circular and not opened"
-unfoldable pub closed : Core → Bool
+abbrev pub closed : Core → Bool
 closed c = c .mode .circular && not (c .load .opened)
 
 -- 01: "D6 reads EXTERNAL and neither settling nor calibrating". Reading: ALT and ENABLE CLOCK are no part of it (DECISIONS 13).
-unfoldable pub clockReady : Core → Bool
+abbrev pub clockReady : Core → Bool
 clockReady c = c .mode .external && not (c .clock .settling) && not (c .calibration .running)
 
 -- 01: "D1 = enabled and no burst". Reading: also while calibrating (DECISIONS 6).
-unfoldable pub burstReady : Core → Bool
+abbrev pub burstReady : Core → Bool
 burstReady c = c .control .bursts && not (c .burst .running)
 
 -- ---- What a clock moves, and where to
@@ -65,7 +65,7 @@ unfoldable pub targets : Core → List ℕ
 targets c = cond (c .control .simultaneous) (activeFrom 0 (c .outputs .mask)) (nextChannel c ∷ [])
 
 -- 01: "An accepted clock moves nothing if the mask is 0, or if bursts are enabled with none in progress."
-unfoldable pub idle : Core → Bool
+abbrev pub idle : Core → Bool
 idle c = eqb (c .outputs .mask) 0 || burstReady c
 
 -- 01: "sequential mode moves one value, if any"; "Simultaneous mode moves as many values as the mask has ones, ascending, only if
@@ -139,16 +139,16 @@ clock c buf = moves c buf (moving c buf)
 -- 01: "A generator tick is accepted when clocking is enabled and (EXTERNAL = 0 or ALT = 1)." Reading: settling does not matter to it
 -- (DECISIONS 12).
 -- 01: "While calibrating, no clock or trigger is accepted."
-unfoldable pub tickAccepted : Core → Bool
+abbrev pub tickAccepted : Core → Bool
 tickAccepted c = c .mode .enabled && (not (c .mode .external) || c .clock .alt) && not (c .calibration .running)
 
 -- 01: "An outside or software clock is accepted when enabled, EXTERNAL = 1, ALT = 0 and D6 = 1."
-unfoldable pub clockAccepted : Core → Bool
+abbrev pub clockAccepted : Core → Bool
 clockAccepted c = c .mode .enabled && c .mode .external && not (c .clock .alt) && clockReady c
 
 -- 01: "An outside trigger starts a burst when BCR D0 = 1, BCR D6 = 0, and there is no burst or calibration." Reading: it needs no
 -- clock, data or mask (DECISIONS 5).
-unfoldable pub triggerAccepted : Core → Bool
+abbrev pub triggerAccepted : Core → Bool
 triggerAccepted c = c .control .bursts && not (c .control .barred) && not (c .burst .running) && not (c .calibration .running)
 
 -- 01: "Clocks and triggers that are not accepted answer 0 and change nothing."

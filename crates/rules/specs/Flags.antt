@@ -6,17 +6,17 @@ use Rattle.rules.specs.Types.{Size}
 use Rattle.rules.specs.Record.{activeSize}
 
 -- 01: "Flags: empty at count 0"
-unfoldable pub isEmpty : ℕ → Bool
+abbrev pub isEmpty : ℕ → Bool
 isEmpty n = eqb n 0
 
 -- 01: "low quarter at 4·count < size"
-unfoldable pub isLow : Size → ℕ → Bool
+abbrev pub isLow : Size → ℕ → Bool
 isLow s n = ltb (4 * n) (activeSize s)
 
 -- 01: "high quarter at 4·count > 3·size"
-unfoldable pub isHigh : Size → ℕ → Bool
+abbrev pub isHigh : Size → ℕ → Bool
 isHigh s n = ltb (3 * activeSize s) (4 * n)
 
 -- 01: "full at count ≥ size"
-unfoldable pub isFull : Size → ℕ → Bool
+abbrev pub isFull : Size → ℕ → Bool
 isFull s n = leb (activeSize s) n

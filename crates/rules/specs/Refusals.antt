@@ -30,11 +30,11 @@ unfoldable pub inRange : Settings → Bool
 inRange s = leb (s .fitted) 15 && optionsInRange (optionsOf s)
 
 -- "sample memory shorter than the depth"
-unfoldable pub tooShort : List ℕ → ℕ → Bool
+abbrev pub tooShort : List ℕ → ℕ → Bool
 tooShort memory depth = ltb (length memory) depth
 
 -- "write to 10h or 14h"
-unfoldable pub isReadOnly : ℕ → Bool
+abbrev pub isReadOnly : ℕ → Bool
 isReadOnly o = eqb o 0x10 || eqb o 0x14
 
 -- "calibration end while none runs, or settled while not settling"

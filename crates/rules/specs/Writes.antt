@@ -47,7 +47,7 @@ initialised o = record { core = initial o; op = clear; moved = 0; fate = none }
 -- ---- 00h, BCR
 
 -- 01: "store D0, D3 to D10"
-unfoldable pub controlOf : ℕ → Control
+abbrev pub controlOf : ℕ → Control
 controlOf v =
     record {
       bursts = bit 0 v;
@@ -114,11 +114,11 @@ writeAdjust c v =
 -- ---- 0Ch, BOR
 
 -- 01: "store D0 to D5 and D8"
-unfoldable pub modeOf : ℕ → Mode
+abbrev pub modeOf : ℕ → Mode
 modeOf v = record { external = bit 4 v; enabled = bit 5 v; circular = bit 8 v }
 
 -- 01: "D16, D17 = 0 clear those flags, 1 leaves them". Reading: 1 never sets one (DECISIONS 22).
-unfoldable pub lostOf : ℕ → Lost → Lost
+abbrev pub lostOf : ℕ → Lost → Lost
 lostOf v x = record { full = x .full && bit 16 v; closed = x .closed && bit 17 v }
 
 -- 01: "D8 = 0 drops pending and opened; D11 = 1 .. drops pending and opened"

@@ -36,33 +36,34 @@ pub enum Event {
 // 01: "Each event answers: refusal number; register value (0 unless a read); values moved (0 to 20); load fate (0 none,
 // 1 stored, 2 lost to full, 3 lost to closed)."
 pub struct Answer {
-    pub refusal: u8,
+    pub refusal: u32,
     pub register: u32,
-    pub moved: u8,
-    pub fate: u8,
+    pub moved: u32,
+    pub fate: u32,
 }
 
 // 01: "A rate question answers refusal number, whole reference and rate, the last two 0 when refused."
 pub struct Figures {
-    pub refusal: u8,
+    pub refusal: u32,
     pub reference: u32,
     pub rate: u32,
 }
 
 // ---- The board record
 
-// What power-up fixes, but for the fitted code.
+// What power-up fixes, but for the fitted code. The numbers of a record are 32 bits wide, so that any damaged record can be handed in:
+// soundness is a test, and no matter of types.
 pub struct Options {
-    pub range: u8,
-    pub filter: u8,
-    pub kit: u8,
-    pub firmware: u16,
+    pub range: u32,
+    pub filter: u32,
+    pub kit: u32,
+    pub firmware: u32,
 }
 
 // The fitted code d and the size code (BOR D00-D03): all that says how much the active buffer holds.
 pub struct Size {
-    pub fitted: u8,
-    pub code: u8,
+    pub fitted: u32,
+    pub code: u32,
 }
 
 // BCR D00, D03 to D10.
@@ -73,7 +74,7 @@ pub struct Control {
     pub differential: bool,
     pub barred: bool,
     pub simultaneous: bool,
-    pub selection: u8,
+    pub selection: u32,
 }
 
 // BOR D04, D05, D08.
@@ -92,8 +93,8 @@ pub struct Calibration {
 
 // 08h and 1Ch, and whether the adjustable clock is settling.
 pub struct Clock {
-    pub divisor: u16,
-    pub nclk: u16,
+    pub divisor: u32,
+    pub nclk: u32,
     pub alt: bool,
     pub settling: bool,
 }
@@ -119,7 +120,7 @@ pub struct Lost {
 // The channel mask (04h), the channel cursor of sequential mode, and the twenty levels.
 pub struct Outputs {
     pub mask: u32,
-    pub cursor: u8,
+    pub cursor: u32,
     pub levels: [u16; 20],
 }
 
