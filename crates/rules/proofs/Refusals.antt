@@ -108,7 +108,6 @@ module _ (s : State) where
   given (powerUp x) =
       cases (Given s (powerUp x)) (not (inRange x)) (λ h. badSetting (λ k. not-both (inRange x) h (range-from x k))) (λ h.
       let r = range-to x (not-not (inRange x) h) in
-      unfold tooShort in
       cases (Given s (powerUp x)) (ltb (length (s .memory)) (depthOf (x .fitted))) (λ l. shortForPowerUp r (ltb-true _ _ l)) (λ l.
       poweredUp r (ltb-false _ _ l)))
   given (write o v) = stands-to (write o v) _ tt (write-to o v)
