@@ -1,0 +1,136 @@
+//! The refusal numbers of events, each "given exactly when" the table says,
+//! and their order.
+
+use crate::event::Event;
+use crate::record::{depth_of, Record};
+
+/// "0 | done"
+pub(crate) const DONE: u32 = 0;
+/// "1 | power-up setting out of range"
+pub(crate) const SETTING: u32 = 1;
+/// "2 | sample memory shorter than the depth"
+pub(crate) const MEMORY: u32 = 2;
+/// "3 | record not sound"
+pub(crate) const UNSOUND: u32 = 3;
+/// "4 | offset other than 00, 04, 08, 0C, 10, 14, 18, 1C (hex)"
+pub(crate) const OFFSET: u32 = 4;
+/// "5 | write to 10h or 14h"
+pub(crate) const READ_ONLY: u32 = 5;
+/// "6 | any other write while calibrating"
+pub(crate) const CALIBRATING: u32 = 6;
+/// "7 | calibration end while none runs, or settled while not settling"
+pub(crate) const NOT_RUNNING: u32 = 7;
+/// "8 | rate asked with divisor 0"
+pub(crate) const DIVISOR: u32 = 8;
+/// "9 | rate asked with EXTERNAL CLOCK set"
+pub(crate) const EXTERNAL: u32 = 9;
+/// "10 | session file empty or its first byte not 01"
+pub(crate) const NO_SESSION: u32 = 10;
+/// "11 | file ends inside a record"
+pub(crate) const CUT: u32 = 11;
+/// "12 | record length wrong for its kind, or 0"
+pub(crate) const LENGTH: u32 = 12;
+/// "13 | unknown record kind"
+pub(crate) const KIND: u32 = 13;
+
+/// The refusal of an event, or DONE. `length` is the memory's length.
+pub(crate) fn refusal(record: &Record, length: usize, event: &Event) -> u32 {
+    match *event {
+        // "Order: power-up 1, 2 (any old record is accepted)"
+        Event::PowerUp {
+            fitted,
+            range,
+            filter,
+            kit,
+            firmware,
+        } => {
+            let settings = Record {
+                fitted,
+                range,
+                filter,
+                kit,
+                firmware,
+                ..Record::unpowered()
+            };
+            if !settings.settings_in_range() {
+                return SETTING;
+            }
+            if length < depth_of(fitted) as usize {
+                return MEMORY;
+            }
+            DONE
+        }
+        // "other events 3, 2, 4, 5, 6"
+        Event::Write { offset, .. } => {
+            let shared = record_and_memory(record, length);
+            if shared != DONE {
+                return shared;
+            }
+            if !is_register(offset) {
+                return OFFSET;
+            }
+            if offset == 0x10 || offset == 0x14 {
+                return READ_ONLY;
+            }
+            if record.calibrating {
+                return CALIBRATING;
+            }
+            DONE
+        }
+        // The same order; 5 and 6 are about writes only.
+        Event::Read { offset } => {
+            let shared = record_and_memory(record, length);
+            if shared != DONE {
+                return shared;
+            }
+            if !is_register(offset) {
+                return OFFSET;
+            }
+            DONE
+        }
+        // "Clocks and triggers that are not accepted answer 0 and change
+        // nothing.": no refusal of their own.
+        Event::Tick | Event::Outside | Event::Trigger => record_and_memory(record, length),
+        // "or 3, 2, 7": "calibration end while none runs"
+        Event::Passed | Event::Failed => {
+            let shared = record_and_memory(record, length);
+            if shared != DONE {
+                return shared;
+            }
+            if !record.calibrating {
+                return NOT_RUNNING;
+            }
+            DONE
+        }
+        // "or 3, 2, 7": "or settled while not settling"
+        Event::Settled => {
+            let shared = record_and_memory(record, length);
+            if shared != DONE {
+                return shared;
+            }
+            if !record.settling {
+                return NOT_RUNNING;
+            }
+            DONE
+        }
+    }
+}
+
+/// "3, 2": first the record, then the memory.
+fn record_and_memory(record: &Record, length: usize) -> u32 {
+    if !record.is_sound() {
+        return UNSOUND;
+    }
+    if length < record.depth() as usize {
+        return MEMORY;
+    }
+    DONE
+}
+
+/// "00, 04, 08, 0C, 10, 14, 18, 1C (hex)"
+fn is_register(offset: u32) -> bool {
+    matches!(
+        offset,
+        0x00 | 0x04 | 0x08 | 0x0C | 0x10 | 0x14 | 0x18 | 0x1C
+    )
+}
