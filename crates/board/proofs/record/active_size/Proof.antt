@@ -1,0 +1,33 @@
+use Prim.Native.Nat.{_≤_}
+use mathlib.Core.Path.{_∙_}
+use native.Mathlib.Nat.{min-eq-left, min-eq-right}
+use native.Mathlib.Omega.{arith}
+use borrow.Author.Needs.{needs}
+use Rattle.rules.specs.Record.{depthOf, activeSize}
+use Rattle.board.proofs.record.active_size.Statement.{statement}
+use Rattle.board.proofs.record.active_size.Tie as tie
+
+depth-of-requires : tie.Need-depth-of-requires
+depth-of-requires c κs = search needs
+
+returns : tie.Need-returns
+unfolding depthOf activeSize
+returns c =
+    let s = c .before .before .before .args .s in
+    let h : s .code ≤ s .fitted = omega arith in
+    let e = c .depth-of .ensures in
+    (e .0 ∙ rw (min-eq-left h), e .1, e .2)
+
+depth-of-requires-2 : tie.Need-depth-of-requires-2
+depth-of-requires-2 c κs = search needs
+
+returns-2 : tie.Need-returns-2
+unfolding depthOf activeSize
+returns-2 c =
+    let s = c .before .before .before .args .s in
+    let h : s .fitted ≤ s .code = omega arith in
+    let e = c .depth-of2 .ensures in
+    (e .0 ∙ rw (min-eq-right h), e .1, e .2)
+
+pub active-size-spec : {M : Type 1} → statement M
+active-size-spec = tie.close (tie.spec depth-of-requires returns depth-of-requires-2 returns-2)

@@ -1,0 +1,65 @@
+use borrow.Author.Needs.{needs}
+use Rattle.board.specs.Does.{ownNumber}
+use Rattle.board.proofs.refusals.own.Statement.{statement}
+use Rattle.board.proofs.refusals.own.Tie as tie
+
+enum-told : tie.Need-enum-told
+enum-told c = search needs
+
+enum-known-e : tie.Need-enum-known-e
+enum-known-e c = search needs
+
+own-write-requires : tie.Need-own-write-requires
+own-write-requires c κs = search needs
+
+enum-known-e-2 : tie.Need-enum-known-e-2
+enum-known-e-2 c = search needs
+
+is-offset-requires : tie.Need-is-offset-requires
+is-offset-requires c κs = search needs
+
+pick-requires : tie.Need-pick-requires
+pick-requires c κs = search needs
+
+enum-known-e-3 : tie.Need-enum-known-e-3
+enum-known-e-3 c = search needs
+
+ends-nothing-requires : tie.Need-ends-nothing-requires
+ends-nothing-requires c κs = search needs
+
+pick-requires-2 : tie.Need-pick-requires-2
+pick-requires-2 c κs = search needs
+
+returns : tie.Need-returns
+unfolding ownNumber
+returns c = rw (c .enum-told .given .1)
+
+returns-2 : tie.Need-returns-2
+unfolding ownNumber
+returns-2 c = rw (c .own-write .ensures, c .before .before .e .given .1)
+
+returns-3 : tie.Need-returns-3
+unfolding ownNumber
+returns-3 c = rw (c .pick .ensures, c .before .is-offset .ensures, c .before .before .before .e2 .given .1)
+
+returns-4 : tie.Need-returns-4
+unfolding ownNumber
+returns-4 c = rw (c .pick2 .ensures, c .before .ends-nothing .ensures, c .before .before .before .e3 .given .1)
+
+pub own-spec : {M : Type 1} → statement M
+own-spec =
+    tie.close
+    (tie.spec
+    enum-told
+    enum-known-e
+    own-write-requires
+    enum-known-e-2
+    is-offset-requires
+    pick-requires
+    enum-known-e-3
+    ends-nothing-requires
+    pick-requires-2
+    returns
+    returns-2
+    returns-3
+    returns-4)

@@ -1,0 +1,34 @@
+-- Refused by its number, or done.
+use mathlib.Core.Path.{refl, sym, _∙_}
+use borrow.Author.Needs.{needs}
+use Rattle.rules.specs.Record.{State}
+use Rattle.board.proofs.Whole.{refused-stepped}
+use Rattle.board.proofs.step.Statement.{statement}
+use Rattle.board.proofs.step.Tie as tie
+
+refusal-of-requires : tie.Need-refusal-of-requires
+refusal-of-requires c κs = search needs
+
+done-requires : tie.Need-done-requires
+done-requires c κs = sym (c .before .before .refusal-of .ensures _ refl) ∙ c .before .if1 .taken
+
+same-length : tie.Need-same-length
+same-length c = search needs
+
+returns : tie.Need-returns
+returns c = search needs
+
+refused-requires : tie.Need-refused-requires
+refused-requires c κs = search needs
+
+returns-2 : tie.Need-returns-2
+returns-2 c =
+    let a = c .before .before .before .before .args in
+    let s : State = record { board = a .b; memory = a .memory .now } in
+    let r = c .refused .ensures in
+    refused-stepped s (a .e) _ _ (c .before .before .refusal-of .ensures _ refl) (c .before .if1 .left) (r .0) (r .1)
+
+pub step-spec : {M : Type 1} → statement M
+step-spec =
+    tie.close
+    (tie.spec refusal-of-requires done-requires same-length returns refused-requires returns-2)

@@ -1,0 +1,50 @@
+-- A read answers its register, any other event 0.
+use borrow.Author.Needs.{needs}
+use Rattle.rules.specs.Step.{reading}
+use Rattle.board.proofs.steps.register.Statement.{statement}
+use Rattle.board.proofs.steps.register.Tie as tie
+
+enum-told : tie.Need-enum-told
+enum-told c = search needs
+
+enum-told-2 : tie.Need-enum-told-2
+enum-told-2 c = search needs
+
+enum-known-e : tie.Need-enum-known-e
+enum-known-e c = search needs
+
+read-at-requires : tie.Need-read-at-requires
+read-at-requires c κs = c .before .before .before .pre (rw (c .before .e .given .1) tt)
+
+enum-told-3 : tie.Need-enum-told-3
+enum-told-3 c = search needs
+
+returns : tie.Need-returns
+unfolding reading
+returns c = rw (c .enum-told .given .1)
+
+returns-2 : tie.Need-returns-2
+unfolding reading
+returns-2 c = rw (c .enum-told2 .given .1)
+
+returns-3 : tie.Need-returns-3
+unfolding reading
+returns-3 c = rw (c .before .before .e .given .1) (c .read-at .ensures)
+
+returns-4 : tie.Need-returns-4
+unfolding reading
+returns-4 c = rw (c .enum-told3 .given .1)
+
+pub register-spec : {M : Type 1} → statement M
+register-spec =
+    tie.close
+    (tie.spec
+    enum-told
+    enum-told-2
+    enum-known-e
+    read-at-requires
+    enum-told-3
+    returns
+    returns-2
+    returns-3
+    returns-4)

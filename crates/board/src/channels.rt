@@ -1,0 +1,50 @@
+// The channels of a mask.
+ghost use Prim.Native.Nat.{_≤_, _<_, _^_};
+ghost use mathlib.Core.Path.{_≡_};
+ghost use lib.ListN.{length};
+ghost use Rattle.rules.specs.Bits.{activeFrom, headOr};
+ghost use Rattle.rules.specs.Clocks.{nextChannel, targets};
+use rules::Core;
+
+// The lowest active channel from k up, 20 where there is none.
+pub(crate) fn lowest_from(mask: u32, k: u32) -> u32
+    requires { ⌜ k ≤ 20 ⌝ }
+    ensures { λ r. ⌜ (r ≡ headOr 20 (activeFrom k mask)) × (r ≤ 20) ⌝ }
+{
+    let mut at = k;
+    while at < 20 {
+        if (mask >> at) % 2 == 1 {
+            return at;
+        }
+        at += 1;
+    }
+    20
+}
+
+// 01: "to the lowest active channel at or above the cursor, else to the lowest active one"
+pub(crate) fn next_channel(c: Core) -> u32
+    requires { ⌜ c .outputs .cursor ≤ 20 ⌝ }
+    ensures { λ r. ⌜ (r ≡ nextChannel c) × (r < 20) ⌝ }
+{
+    let mask = c.outputs.mask;
+    let above = lowest_from(mask, c.outputs.cursor);
+    if above < 20 {
+        return above;
+    }
+    let lowest = lowest_from(mask, 0);
+    if lowest < 20 {
+        return lowest;
+    }
+    0
+}
+
+// How many values a clock moves if it moves any: "as many values as the mask has ones", or one.
+pub(crate) fn group_size(c: Core) -> u32
+    requires { ⌜ c .outputs .mask < 2 ^ 20 ⌝ }
+    ensures { λ r. ⌜ (r ≡ length (targets c)) × (r ≤ 20) ⌝ }
+{
+    if c.control.simultaneous {
+        return u32::count_ones(c.outputs.mask);
+    }
+    1
+}

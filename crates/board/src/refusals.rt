@@ -1,0 +1,141 @@
+// Which events are refused, and by which number.
+ghost use Prim.Native.Nat.{ℕ};
+ghost use mathlib.Core.Path.{_≡_};
+ghost use mathlib.Core.Bool.{not, cond};
+ghost use mathlib.Core.List.{List};
+ghost use lib.ListN.{length};
+ghost use Rattle.rules.specs.Record.{depth, sound};
+ghost use Rattle.rules.specs.Registers.{isOffset};
+ghost use Rattle.rules.specs.Refusals.{inRange, endsNothing, tooShort, refusal};
+ghost use lib.Dec.{eqb};
+ghost use Rattle.board.specs.Types.{Board, powerUp};
+ghost use Rattle.board.specs.Does.{ownWrite, ownNumber};
+ghost use Rattle.rules.specs.Laws.Refusals.{Ordinary};
+use crate::choose::pick;
+use crate::record::depth_of;
+use crate::record::options_in_range;
+use crate::record::sound;
+use rules::Board;
+use rules::Core;
+use rules::Event;
+use rules::Options;
+use rules::Settings;
+use rules::Signal;
+
+// "power-up setting out of range"
+pub(crate) fn in_range(x: Settings) -> bool
+    ensures { λ r. ⌜ r ≡ inRange x ⌝ }
+{
+    let o = Options {
+        range: x.range,
+        filter: x.filter,
+        kit: x.kit,
+        firmware: x.firmware,
+    };
+    (x.fitted <= 15) & options_in_range(o)
+}
+
+// "offset other than 00, 04, 08, 0C, 10, 14, 18, 1C (hex)" is what this denies.
+pub(crate) fn is_offset(o: u32) -> bool
+    ensures { λ r. ⌜ r ≡ isOffset o ⌝ }
+{
+    (o == 0)
+        | ((o == 4)
+            | ((o == 8)
+                | ((o == 12) | ((o == 16) | ((o == 20) | ((o == 24) | ((o == 28) | false)))))))
+}
+
+// "calibration end while none runs, or settled while not settling"
+pub(crate) fn ends_nothing(c: Core, x: Signal) -> bool
+    ensures { λ r. ⌜ r ≡ endsNothing c x ⌝ }
+{
+    match x {
+        Signal::Tick => false,
+        Signal::Outside => false,
+        Signal::Trigger => false,
+        Signal::Passed => !c.calibration.running,
+        Signal::Failed => !c.calibration.running,
+        Signal::Settled => !c.clock.settling,
+    }
+}
+
+// 01: "power-up 1, 2"
+pub(crate) fn power_up_refusal(x: Settings, len: usize) -> u32
+    ensures { λ r. ⌜ ((b : Board) (m : List ℕ) → length m ≡ len → r ≡ refusal (record { board = b; memory = m }) (powerUp x)) ⌝ }
+{
+    if !in_range(x) {
+        return 1;
+    }
+    if len < depth_of(x.fitted) as usize {
+        return 2;
+    }
+    0
+}
+
+// 3, then 2.
+pub(crate) fn standing(b: Board, len: usize) -> u32
+    ensures { λ r. ⌜ ((m : List ℕ) → length m ≡ len → (n : ℕ) → cond (not (sound b)) 3 (cond (tooShort m (depth b)) 2 n) ≡ cond (eqb r 0) n r) ⌝ }
+{
+    if !sound(b) {
+        return 3;
+    }
+    if len < depth_of(b.size.fitted) as usize {
+        return 2;
+    }
+    0
+}
+
+// 4, 5, 6 of a write.
+pub(crate) fn own_write(c: Core, o: u32) -> u32
+    ensures { λ r. ⌜ r ≡ ownWrite c o ⌝ }
+{
+    if !is_offset(o) {
+        return 4;
+    }
+    if (o == 16) | (o == 20) {
+        return 5;
+    }
+    if c.calibration.running {
+        return 6;
+    }
+    0
+}
+
+// An event's own number, once 3 and 2 are passed.
+pub(crate) fn own(c: Core, e: Event) -> u32
+    ensures { λ r. ⌜ r ≡ ownNumber c e ⌝ }
+{
+    match e {
+        Event::PowerUp(_) => 0,
+        Event::Write { offset, value: _ } => own_write(c, offset),
+        Event::Read { offset } => pick(is_offset(offset), 0, 4),
+        Event::Signal(x) => pick(ends_nothing(c, x), 7, 0),
+    }
+}
+
+// The number of an event that is no power-up.
+pub(crate) fn ordinary_refusal(b: Board, len: usize, e: Event) -> u32
+    ensures { λ r. ⌜ ((m : List ℕ) → length m ≡ len → Ordinary e → r ≡ refusal (record { board = b; memory = m }) e) ⌝ }
+{
+    let n = standing(b, len);
+    if n == 0 {
+        let c = b.core;
+        return own(c, e);
+    }
+    n
+}
+
+// The number of any event.
+pub(crate) fn refusal_of(b: Board, len: usize, e: Event) -> u32
+    ensures { λ r. ⌜ ((m : List ℕ) → length m ≡ len → r ≡ refusal (record { board = b; memory = m }) e) ⌝ }
+{
+    match e {
+        Event::PowerUp(x) => power_up_refusal(x, len),
+        Event::Write {
+            offset: _,
+            value: _,
+        } => ordinary_refusal(b, len, e),
+        Event::Read { offset: _ } => ordinary_refusal(b, len, e),
+        Event::Signal(_) => ordinary_refusal(b, len, e),
+    }
+}

@@ -1,0 +1,133 @@
+// An event that is done, and one that is refused.
+ghost use mathlib.Core.Path.{_≡_};
+ghost use Rattle.board.specs.Does.{Ready, Does, Sober, Sized, listed};
+ghost use Rattle.board.specs.Types.{Ring};
+ghost use Rattle.board.specs.Promises.{Stepped};
+ghost use Rattle.rules.specs.Laws.Soundness.{Stands};
+ghost use Rattle.rules.specs.Laws.Refusals.{Ordinary};
+ghost use Rattle.rules.specs.Play.{play};
+ghost use Rattle.rules.specs.Record.{State, depth};
+ghost use Rattle.rules.specs.Flags.{isFull};
+ghost use Rattle.rules.specs.Refusals.{refusal};
+ghost use Rattle.rules.specs.Size.{sizeAfter};
+ghost use Rattle.rules.specs.Interrupt.{requestHeld};
+ghost use Rattle.rules.specs.Step.{played, reading};
+use crate::Reply;
+use crate::interrupt::request_after;
+use crate::interrupt::request_held;
+use crate::interrupt::size_after;
+use crate::loads::initialised;
+use crate::loads::on_signal;
+use crate::loads::on_write;
+use crate::play::Played;
+use crate::record::active_size;
+use crate::record::depth_of;
+use crate::registers::read_at;
+use rules::Answer;
+use rules::Board;
+use rules::Event;
+use rules::Options;
+
+// 01: "On refusal the last three are 0, the given record comes back"
+pub(crate) fn refused(n: u32, b: Board) -> Reply
+    ensures { λ r. ⌜ (r .answer ≡ record { refusal = n; register = 0; moved = 0; fate = 0 }) × (r .board ≡ b) ⌝ }
+{
+    let answer = Answer {
+        refusal: n,
+        register: 0,
+        moved: 0,
+        fate: 0,
+    };
+    Reply {
+        answer: answer,
+        board: b,
+    }
+}
+
+// What the rules make of an event that is not refused.
+pub(crate) fn played(b: Board, memory: &mut [u32], e: Event) -> Played
+    requires { ⌜ (Ordinary e → Stands (record { board = b; memory = now memory })) ⌝ }
+    ensures { λ r. ⌜ Does (depth b) (played (record { board = b; memory = now (memory .entry) }) e) (b .ring) (now (memory .entry)) r (now (memory .exit)) ⌝ }
+{
+    let core = b.core;
+    let ring = b.ring;
+    match e {
+        Event::PowerUp(x) => {
+            initialised(Options {
+                range: x.range,
+                filter: x.filter,
+                kit: x.kit,
+                firmware: x.firmware,
+            })
+        }
+        Event::Write { offset, value } => {
+            let d = depth_of(b.size.fitted);
+            let size = b.size;
+            let full = active_size(size) <= ring.count;
+            on_write(core, full, ring, d, offset, value, memory)
+        }
+        Event::Read { offset: _ } => Played {
+            core: core,
+            ring: ring,
+            moved: 0,
+            fate: 0,
+        },
+        Event::Signal(x) => {
+            let d = depth_of(b.size.fitted);
+            on_signal(core, ring, d, x, memory)
+        }
+    }
+}
+
+// 01: "register value (0 unless a read)"
+pub(crate) fn register(b: Board, e: Event) -> u32
+    requires { ⌜ (Ordinary e → Sized b) ⌝ }
+    ensures { λ r. ⌜ r ≡ reading b e ⌝ }
+{
+    match e {
+        Event::PowerUp(_) => 0,
+        Event::Write {
+            offset: _,
+            value: _,
+        } => 0,
+        Event::Read { offset } => read_at(b, offset),
+        Event::Signal(_) => 0,
+    }
+}
+
+// The board after a play, all but the interrupt's edge.
+pub(crate) fn board_before(b: Board, p: Played, e: Event) -> Board
+    ensures { λ r. ⌜ r ≡ record { core = p .core; size = sizeAfter (b .size) e; request = requestHeld (b .request) e; ring = p .ring } ⌝ }
+{
+    let size = b.size;
+    let core = p.core;
+    let ring = p.ring;
+    Board {
+        core: core,
+        size: size_after(size, e),
+        request: request_held(b.request, e),
+        ring: ring,
+    }
+}
+
+// An event that is not refused.
+pub(crate) fn done(b: Board, memory: &mut [u32], e: Event) -> Reply
+    requires { ⌜ refusal (record { board = b; memory = now memory }) e ≡ 0 ⌝ }
+    ensures { λ r. ⌜ Stepped b (now (memory .entry)) e r (now (memory .exit)) ⌝ }
+{
+    let value = register(b, e);
+    let p = played(b, memory, e);
+    let mut after = board_before(b, p, e);
+    let request = request_after(e, b, after);
+    after.request = request;
+    let answer = Answer {
+        refusal: 0,
+        register: value,
+        moved: p.moved,
+        fate: p.fate,
+    };
+    Reply {
+        answer: answer,
+        board: after,
+    }
+}
