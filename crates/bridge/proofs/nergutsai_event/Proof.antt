@@ -1,0 +1,73 @@
+-- A call is looked at if its lengths and its kind are right; then it is the step's.
+use mathlib.Core.Path.{sym, _∙_}
+use Rattle.bridge.proofs.Calls.{not-understood, understood}
+use borrow.Author.Needs.{needs}
+use Rattle.bridge.proofs.nergutsai_event.Statement.{statement}
+use Rattle.bridge.proofs.nergutsai_event.Tie as tie
+
+status-of-requires : tie.Need-status-of-requires
+status-of-requires c κs = search needs
+
+returns : tie.Need-returns
+returns c = not-understood _ _ _ _ _ (c .before .status-of .ensures .0) (c .if1 .taken)
+
+board-at-requires : tie.Need-board-at-requires
+board-at-requires c κs = search needs
+
+event-at-requires : tie.Need-event-at-requires
+event-at-requires c κs =
+    let test = c .before .before .before in
+    (test .before .status-of .ensures .1 (test .if1 .left)) .event-long
+
+step-requires : tie.Need-step-requires
+step-requires c κs = search needs
+
+put-answer-requires : tie.Need-put-answer-requires
+put-answer-requires c κs =
+    let stepped = c .before .before .before .before .before in
+    let test = stepped .before .before .before .before .before in
+    (test .before .status-of .ensures .1 (test .if1 .left)) .answer-long
+
+put-record-requires : tie.Need-put-record-requires
+put-record-requires c κs =
+    let stepped = c .before .before .before .before .before .before .before .before .before in
+    let test = stepped .before .before .before .before .before in
+    (test .before .status-of .ensures .1 (test .if1 .left)) .record-long
+
+same-length : tie.Need-same-length
+same-length c = search needs
+
+same-length-2 : tie.Need-same-length-2
+same-length-2 c = search needs
+
+same-length-3 : tie.Need-same-length-3
+same-length-3 c = search needs
+
+returns-2 : tie.Need-returns-2
+returns-2 c =
+    let written = c .before .before in
+    let answered = written .before .before .before .before in
+    let stepped = answered .before .before .before .before .before .before in
+    let read = stepped .before .before .before in
+    let test = read .before .before in
+    let fine = test .before in
+    let z = test .if1 .left in
+    understood _ _ _ _ _ _ _ _ _ _ (sym (fine .status-of .ensures .0) ∙ z) ((fine .status-of .ensures .1 z) .record-long)
+    (read .board-at .ensures) (stepped .before .event-at .ensures) (stepped .step .ensures)
+    (answered .put-answer .ensures) (written .put-record .ensures)
+
+pub nergutsai-event-spec : {M : Type 1} → statement M
+nergutsai-event-spec =
+    tie.close
+    (tie.spec
+    status-of-requires
+    returns
+    board-at-requires
+    event-at-requires
+    step-requires
+    put-answer-requires
+    put-record-requires
+    same-length
+    same-length-2
+    same-length-3
+    returns-2)

@@ -1,0 +1,51 @@
+-- A call: a record as a row of 55 numbers, the sample memory, an event as a row of 6, and room for an answer of 4.
+use Prim.Native.Nat.{ℕ}
+use mathlib.Core.Path.{_≡_}
+use mathlib.Core.Bool.{_||_, not, cond}
+use mathlib.Core.List.{List, [], _∷_}
+use lib.Dec.{eqb, ltb}
+use lib.ListN.{length}
+use Rattle.rules.specs.Step.{Outcome, step}
+use Rattle.layout.specs.Layout.{at, boardAt, rowOf}
+use Rattle.bridge.specs.Types.{Answer}
+use Rattle.bridge.specs.Events.{eventAt}
+
+-- the lengths of a call that is looked at
+pub record Fits (row : ℕ) (e : List ℕ) (answer : ℕ) : Type 0 where
+  pub record-long : row ≡ 55
+  pub event-long : length e ≡ 6
+  pub answer-long : answer ≡ 4
+
+-- why a call is not understood, the first that holds: 1 the record, 2 the event, 3 the answer is of another length; 4 no such
+-- kind of event; 0 it is understood
+unfoldable pub status : ℕ → List ℕ → ℕ → ℕ
+status row e answer =
+    cond (not (eqb row 55)) 1
+    (cond (not (eqb (length e) 6)) 2
+    (cond (not (eqb answer 4)) 3
+    (cond (ltb (at e 0) 1 || ltb 9 (at e 0)) 4 0)))
+
+abbrev pub answerRow : Answer → List ℕ
+answerRow a = a .refusal ∷ a .register ∷ a .moved ∷ a .fate ∷ []
+
+-- what a call leaves
+pub record Left : Type 0 where
+  pub row : List ℕ
+  pub memory : List ℕ
+  pub answer : List ℕ
+
+-- 01: "the given record comes back": the row of a refused event is as it was
+abbrev pub leftBy : List ℕ → Outcome → Left
+leftBy row o =
+    record {
+      row = cond (eqb (o .answer .refusal) 0) (rowOf (o .state .board)) row;
+      memory = o .state .memory;
+      answer = answerRow (o .answer);
+    }
+
+-- a call that is not understood leaves all as it was
+unfoldable pub left : List ℕ → List ℕ → List ℕ → List ℕ → Left
+left row memory e answer =
+    cond (eqb (status (length row) e (length answer)) 0)
+    (leftBy row (step (record { board = boardAt row; memory = memory }) (eventAt e)))
+    (record { row = row; memory = memory; answer = answer })

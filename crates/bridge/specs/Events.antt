@@ -1,0 +1,22 @@
+-- An event as a row of six numbers: its kind, and up to five more.
+--   1 power-up: fitted, range, filter, kit, firmware    2 write: offset, value    3 read: offset
+--   4 rate-generator clock   5 outside clock   6 trigger   7 calibration passed   8 calibration failed   9 settled
+use Prim.Native.Nat.{ℕ}
+use mathlib.Core.Bool.{cond}
+use mathlib.Core.List.{List}
+use lib.Dec.{eqb}
+use Rattle.layout.specs.Layout.{at}
+use Rattle.bridge.specs.Types.{Event, powerUp, write, read, signal, Signal, tick, outside, trigger, passed, failed, settled}
+
+unfoldable pub signalOf : ℕ → Signal
+signalOf kind =
+    cond (eqb kind 4) tick
+    (cond (eqb kind 5) outside
+    (cond (eqb kind 6) trigger (cond (eqb kind 7) passed (cond (eqb kind 8) failed settled))))
+
+unfoldable pub eventAt : List ℕ → Event
+eventAt e =
+    cond (eqb (at e 0) 1)
+    (powerUp (record { fitted = at e 1; range = at e 2; filter = at e 3; kit = at e 4; firmware = at e 5 }))
+    (cond (eqb (at e 0) 2) (write (at e 1) (at e 2))
+    (cond (eqb (at e 0) 3) (read (at e 1)) (signal (signalOf (at e 0)))))

@@ -1,0 +1,5 @@
+pub mod Types
+pub mod Events
+pub mod Calls
+pub mod Promises
+pub mod Unique

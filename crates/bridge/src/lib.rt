@@ -1,0 +1,126 @@
+// One event on rows of numbers, for hosts in Rust and C. A slice is a pointer and then a length on their side (hosts/).
+ghost use Prim.Native.Nat.{ℕ};
+ghost use mathlib.Core.Path.{_≡_};
+ghost use mathlib.Core.Bool.{cond};
+ghost use lib.Dec.{eqb};
+ghost use lib.ListN.{length};
+ghost use Rattle.layout.specs.Layout.{rowOf};
+ghost use Rattle.bridge.specs.Events.{signalOf, eventAt};
+ghost use Rattle.bridge.specs.Calls.{Fits, status, answerRow};
+ghost use Rattle.bridge.specs.Promises.{Called};
+use board::step;
+use layout::board_at;
+use layout::put_board;
+use rules::Answer;
+use rules::Board;
+use rules::Event;
+use rules::Settings;
+use rules::Signal;
+
+// Which of the reasons not to look at a call comes first, 0 if none does.
+fn status_of(row: usize, event: &[u32], answer: usize) -> u32
+    ensures { λ r. ⌜ (r ≡ status row (now (event .entry)) answer) × (r ≡ 0 → Fits row (now (event .entry)) answer) ⌝ }
+{
+    if row != 55 {
+        return 1;
+    }
+    if event.len() != 6 {
+        return 2;
+    }
+    if answer != 4 {
+        return 3;
+    }
+    if (event[0] < 1) | (9 < event[0]) {
+        return 4;
+    }
+    0
+}
+
+fn signal_of(kind: u32) -> Signal
+    ensures { λ r. ⌜ r ≡ signalOf kind ⌝ }
+{
+    if kind == 4 {
+        return Signal::Tick;
+    }
+    if kind == 5 {
+        return Signal::Outside;
+    }
+    if kind == 6 {
+        return Signal::Trigger;
+    }
+    if kind == 7 {
+        return Signal::Passed;
+    }
+    if kind == 8 {
+        return Signal::Failed;
+    }
+    Signal::Settled
+}
+
+fn event_at(event: &[u32]) -> Event
+    requires { ⌜ length (now event) ≡ 6 ⌝ }
+    ensures { λ r. ⌜ r ≡ eventAt (now (event .entry)) ⌝ }
+{
+    if event[0] == 1 {
+        return Event::PowerUp(Settings {
+            fitted: event[1],
+            range: event[2],
+            filter: event[3],
+            kit: event[4],
+            firmware: event[5],
+        });
+    }
+    if event[0] == 2 {
+        return Event::Write {
+            offset: event[1],
+            value: event[2],
+        };
+    }
+    if event[0] == 3 {
+        return Event::Read { offset: event[1] };
+    }
+    Event::Signal(signal_of(event[0]))
+}
+
+fn put_answer(a: Answer, answer: &mut [u32])
+    requires { ⌜ length (now answer) ≡ 4 ⌝ }
+    ensures { λ _. ⌜ now (answer .exit) ≡ answerRow a ⌝ }
+{
+    answer[0] = a.refusal;
+    answer[1] = a.register;
+    answer[2] = a.moved;
+    answer[3] = a.fate;
+}
+
+// 01: "the given record comes back": a refused event leaves the row alone, and does not write it anew.
+fn put_record(refusal: u32, b: Board, row: &mut [u32])
+    requires { ⌜ length (now row) ≡ 55 ⌝ }
+    ensures { λ _. ⌜ now (row .exit) ≡ cond (eqb refusal 0) (rowOf b) (now (row .entry)) ⌝ }
+{
+    if refusal == 0 {
+        put_board(b, row);
+    }
+}
+
+// One event. Answers 0 where the call was understood, be the event done or refused; else why it was not (specs/Calls.antt).
+#[no_mangle]
+pub extern "C" fn nergutsai_event(
+    row: &mut [u32],
+    memory: &mut [u32],
+    event: &[u32],
+    answer: &mut [u32],
+) -> u32
+    ensures { λ r. ⌜ Called (now (row .entry)) (now (memory .entry)) (now (event .entry)) (now (answer .entry)) r (now (row .exit)) (now (memory .exit)) (now (answer .exit)) ⌝ }
+{
+    let n = status_of(row.len(), event, answer.len());
+    if n != 0 {
+        return n;
+    }
+    let before = board_at(row);
+    let reply = step(before, memory, event_at(event));
+    let given = reply.answer;
+    let after = reply.board;
+    put_answer(given, answer);
+    put_record(given.refusal, after, row);
+    0
+}

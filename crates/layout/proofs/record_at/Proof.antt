@@ -1,0 +1,37 @@
+-- The core and the size are what their functions read; all else is read in place.
+use borrow.Author.Needs.{needs}
+use Rattle.layout.specs.Layout.{boardAt}
+use Rattle.layout.proofs.record_at.Statement.{statement}
+use Rattle.layout.proofs.record_at.Tie as tie
+
+core-at-requires : tie.Need-core-at-requires
+core-at-requires c κs = search needs
+
+size-at-requires : tie.Need-size-at-requires
+size-at-requires c κs = search needs
+
+shared-slice-read-t5 : tie.Need-shared-slice-read-t5
+shared-slice-read-t5 c = search needs
+
+shared-slice-read-t9 : tie.Need-shared-slice-read-t9
+shared-slice-read-t9 c = search needs
+
+shared-slice-read-t11 : tie.Need-shared-slice-read-t11
+shared-slice-read-t11 c = search needs
+
+returns : tie.Need-returns
+unfolding boardAt
+returns c =
+    let size = c .before .before .before in
+    rw (size .size-at .ensures, size .before .core-at .ensures)
+
+pub record-at-spec : {M : Type 1} → statement M
+record-at-spec =
+    tie.close
+    (tie.spec
+    core-at-requires
+    size-at-requires
+    shared-slice-read-t5
+    shared-slice-read-t9
+    shared-slice-read-t11
+    returns)
