@@ -49,6 +49,7 @@ pub(crate) fn mask_limit(kit: u32) -> u32
     1048576
 }
 
+// The nesting and the last `true`, here and below, are those of `all` over the rules' list: so the two compute alike.
 pub(crate) fn options_in_range(o: Options) -> bool
     ensures { λ r. ⌜ r ≡ optionsInRange o ⌝ }
 {

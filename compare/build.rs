@@ -1,0 +1,23 @@
+//! Links libbridge.a from $NERGUTSAI_LIB, or from where `rt staticlib bridge` writes it.
+
+use std::env;
+use std::path::PathBuf;
+
+fn main() {
+    println!("cargo:rerun-if-changed=build.rs");
+    println!("cargo:rerun-if-env-changed=NERGUTSAI_LIB");
+    let folder = match env::var_os("NERGUTSAI_LIB") {
+        Some(folder) => PathBuf::from(folder),
+        None => PathBuf::from(env!("CARGO_MANIFEST_DIR")).join("../target/staticlib"),
+    };
+    let archive = folder.join("libbridge.a");
+    if !archive.is_file() {
+        panic!(
+            "no file {}: run `rt staticlib bridge` at the project's root, or set NERGUTSAI_LIB to its folder",
+            archive.display()
+        );
+    }
+    println!("cargo:rerun-if-changed={}", archive.display());
+    println!("cargo:rustc-link-search=native={}", folder.display());
+    println!("cargo:rustc-link-lib=static=bridge");
+}

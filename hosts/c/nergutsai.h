@@ -1,0 +1,64 @@
+/* The proved board model for hosts in C: one event on a board record, its sample memory and an event, all as numbers.
+ * Link with libbridge.a (`rt staticlib bridge`), which is for Linux on x86-64. */
+#ifndef NERGUTSAI_H
+#define NERGUTSAI_H
+
+#include <stddef.h>
+#include <stdint.h>
+
+#ifdef __cplusplus
+extern "C" {
+#endif
+
+/* The lengths of a record, an event and an answer. */
+enum { NERGUTSAI_RECORD = 55, NERGUTSAI_EVENT = 6, NERGUTSAI_ANSWER = 4 };
+
+/* The numbers of a record. A flag is 0 or 1; read back in, any number but 0 is 1. A level is 16 bits.
+ * All zero is the board before its first power-up. */
+enum {
+    NERGUTSAI_POWERED, NERGUTSAI_RANGE, NERGUTSAI_FILTER, NERGUTSAI_KIT, NERGUTSAI_FIRMWARE,
+    NERGUTSAI_FITTED, NERGUTSAI_CODE,
+    NERGUTSAI_BURSTS, NERGUTSAI_GROUND, NERGUTSAI_BINARY, NERGUTSAI_DIFFERENTIAL, NERGUTSAI_BARRED,
+    NERGUTSAI_SIMULTANEOUS, NERGUTSAI_SELECTION,
+    NERGUTSAI_EXTERNAL, NERGUTSAI_ENABLED, NERGUTSAI_CIRCULAR,
+    NERGUTSAI_CALIBRATING, NERGUTSAI_CAL_FAILED, NERGUTSAI_CALIBRATED,
+    NERGUTSAI_DIVISOR, NERGUTSAI_NCLK, NERGUTSAI_ALT, NERGUTSAI_SETTLING,
+    NERGUTSAI_BURST, NERGUTSAI_SOFTWARE, NERGUTSAI_PENDING, NERGUTSAI_OPENED,
+    NERGUTSAI_BUFFER_OVERFLOW, NERGUTSAI_FRAME_OVERFLOW,
+    NERGUTSAI_MASK, NERGUTSAI_CURSOR, NERGUTSAI_REQUEST, NERGUTSAI_FIRST, NERGUTSAI_COUNT,
+    NERGUTSAI_LEVELS /* and the 19 after it */
+};
+
+/* The first number of an event; the numbers that no field is named for are not looked at. */
+enum {
+    NERGUTSAI_POWER_UP = 1, /* fitted code, range, filter, kit, firmware */
+    NERGUTSAI_WRITE = 2,    /* offset, value */
+    NERGUTSAI_READ = 3,     /* offset */
+    NERGUTSAI_TICK = 4,     /* a clock of the rate generator */
+    NERGUTSAI_OUTSIDE = 5,  /* an outside clock */
+    NERGUTSAI_TRIGGER = 6,
+    NERGUTSAI_PASSED = 7,   /* calibration passed */
+    NERGUTSAI_FAILED = 8,   /* calibration failed */
+    NERGUTSAI_SETTLED = 9
+};
+
+/* The numbers of an answer. */
+enum { NERGUTSAI_REFUSAL, NERGUTSAI_REGISTER, NERGUTSAI_MOVED, NERGUTSAI_FATE };
+
+/* One event. Returns
+ *   0  understood: the answer is written. If its refusal number is 0 the record and the memory are those after the event;
+ *      else both are as they were.
+ *   1  the record, 2 the event, 3 the answer is of another length; 4 no such kind of event. Nothing was written.
+ * The memory may have any length: one that is too short for the board's depth is refused 2.
+ * The four pointers must be aligned and not NULL, for as many numbers as their lengths say, and no two may overlap. */
+uint32_t nergutsai_event(
+    uint32_t *record, size_t record_length,
+    uint32_t *memory, size_t memory_length,
+    const uint32_t *event, size_t event_length,
+    uint32_t *answer, size_t answer_length);
+
+#ifdef __cplusplus
+}
+#endif
+
+#endif

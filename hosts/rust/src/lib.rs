@@ -1,0 +1,140 @@
+//! The proved model of the PC104P-16AO20 for hosts in Rust: a safe wrapper of `nergutsai_event`.
+//!
+//! The archive libbridge.a is for Linux on x86-64.
+
+/// A board record as the model lays it out (hosts/c/nergutsai.h names each number).
+/// Any 55 numbers may be handed in; a damaged record is refused by its own number.
+#[derive(Clone, Debug, PartialEq, Eq)]
+pub struct Record(pub [u32; 55]);
+
+impl Record {
+    /// The board before its first power-up.
+    pub fn unpowered() -> Record {
+        Record([0; 55])
+    }
+
+    /// What each of the 20 channels puts out.
+    pub fn levels(&self) -> &[u32] {
+        &self.0[35..]
+    }
+
+    /// Where the oldest stored value stands in the sample memory.
+    pub fn first(&self) -> u32 {
+        self.0[33]
+    }
+
+    /// How many values are stored.
+    pub fn count(&self) -> u32 {
+        self.0[34]
+    }
+
+    /// Whether an interrupt is requested.
+    pub fn request(&self) -> bool {
+        self.0[32] != 0
+    }
+}
+
+/// Any number may be handed in: one that is out of range is refused.
+#[derive(Clone, Copy, Debug, PartialEq, Eq)]
+pub enum Event {
+    PowerUp {
+        fitted: u32,
+        range: u32,
+        filter: u32,
+        kit: u32,
+        firmware: u32,
+    },
+    Write {
+        offset: u32,
+        value: u32,
+    },
+    Read {
+        offset: u32,
+    },
+    /// A clock of the rate generator.
+    Tick,
+    /// An outside clock.
+    Outside,
+    Trigger,
+    CalibrationPassed,
+    CalibrationFailed,
+    Settled,
+}
+
+impl Event {
+    fn numbers(self) -> [u32; 6] {
+        match self {
+            Event::PowerUp {
+                fitted,
+                range,
+                filter,
+                kit,
+                firmware,
+            } => [1, fitted, range, filter, kit, firmware],
+            Event::Write { offset, value } => [2, offset, value, 0, 0, 0],
+            Event::Read { offset } => [3, offset, 0, 0, 0, 0],
+            Event::Tick => [4, 0, 0, 0, 0, 0],
+            Event::Outside => [5, 0, 0, 0, 0, 0],
+            Event::Trigger => [6, 0, 0, 0, 0, 0],
+            Event::CalibrationPassed => [7, 0, 0, 0, 0, 0],
+            Event::CalibrationFailed => [8, 0, 0, 0, 0, 0],
+            Event::Settled => [9, 0, 0, 0, 0, 0],
+        }
+    }
+}
+
+/// What the board answers to an event.
+#[derive(Clone, Copy, Debug, PartialEq, Eq)]
+pub struct Answer {
+    /// 0 accepted; else the record and the memory are as they were.
+    pub refusal: u32,
+    /// 0 unless a register was read.
+    pub register: u32,
+    /// How many values a clock moved.
+    pub moved: u32,
+    /// Of a load: 1 stored, 2 lost to a full buffer, 3 lost to a closed one.
+    pub fate: u32,
+}
+
+extern "C" {
+    fn nergutsai_event(
+        record: *mut u32,
+        record_length: usize,
+        memory: *mut u32,
+        memory_length: usize,
+        event: *const u32,
+        event_length: usize,
+        answer: *mut u32,
+        answer_length: usize,
+    ) -> u32;
+}
+
+/// One event. The memory may have any length: one that is too short for the board's depth is refused.
+pub fn event(record: &mut Record, memory: &mut [u32], event: Event) -> Answer {
+    let numbers = event.numbers();
+    let mut answer = [0; 4];
+    // The borrows make the four slices valid and apart from each other, which is all that the function asks.
+    let status = unsafe {
+        nergutsai_event(
+            record.0.as_mut_ptr(),
+            record.0.len(),
+            memory.as_mut_ptr(),
+            memory.len(),
+            numbers.as_ptr(),
+            numbers.len(),
+            answer.as_mut_ptr(),
+            answer.len(),
+        )
+    };
+    assert_eq!(
+        status, 0,
+        "the lengths and the kind are right by their types"
+    );
+    let [refusal, register, moved, fate] = answer;
+    Answer {
+        refusal,
+        register,
+        moved,
+        fate,
+    }
+}
