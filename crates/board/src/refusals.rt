@@ -35,7 +35,7 @@ pub(crate) fn in_range(x: Settings) -> bool
     (x.fitted <= 15) & options_in_range(o)
 }
 
-// "offset other than 00, 04, 08, 0C, 10, 14, 18, 1C (hex)" is what this denies. Nested as `any` over the rules' list is.
+// "offset other than 00, 04, 08, 0C, 10, 14, 18, 1C (hex)" is what this denies. Nested as `some` over the rules' list is.
 pub(crate) fn is_offset(o: u32) -> bool
     ensures { λ r. ⌜ r ≡ isOffset o ⌝ }
 {
