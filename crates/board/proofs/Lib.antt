@@ -12,6 +12,5 @@ pub mod Accepted
 pub mod Sobering
 pub mod Signals
 pub mod Standing
-pub mod Refused
 pub mod Whole
 pub mod Unique

@@ -3,17 +3,15 @@
 --   Does d p at m r m′ the outcome r, with the memory m′, is what the rules' play p makes of the ring `at` and the memory m
 use Prim.Native.Nat.{ℕ, _≤_, _<_, _^_}
 use mathlib.Core.Path.{_≡_}
-use mathlib.Core.Bool.{true, false, not, cond}
+use mathlib.Core.Bool.{true, false, cond}
 use mathlib.Core.List.{List}
 use lib.Dec.{eqb}
 use lib.ListN.{length}
-use Rattle.board.specs.Types.{Ring, Core, Board, Event, powerUp, write, read, signal, Signal, tick, outside, trigger, passed, failed, settled}
+use Rattle.board.specs.Types.{Ring, Core, Board, Signal, tick, outside, trigger, passed, failed, settled}
 use Rattle.board.specs.declared.play.Played.{Played}
 use Rattle.rules.specs.Record.{values}
 use Rattle.rules.specs.Clocks.{Play, fateNumber, onTrigger}
 use Rattle.rules.specs.Play.{calibrationEnds, settles}
-use Rattle.rules.specs.Registers.{isOffset}
-use Rattle.rules.specs.Refusals.{isReadOnly, endsNothing}
 use Rattle.rules.specs.Place.{Place, place}
 use Rattle.rules.specs.Writes.{writeControl, writeMask, writeRate, writeAdjust}
 
@@ -66,13 +64,3 @@ signalCore c trigger = (onTrigger c) .core
 signalCore c passed = (calibrationEnds c false) .core
 signalCore c failed = (calibrationEnds c true) .core
 signalCore c settled = (settles c) .core
-
--- an event's own refusal, once 3 and 2 are passed
-unfoldable pub ownWrite : Core → ℕ → ℕ
-ownWrite c o = cond (not (isOffset o)) 4 (cond (isReadOnly o) 5 (cond (c .calibration .running) 6 0))
-
-unfoldable pub ownNumber : Core → Event → ℕ
-ownNumber c (powerUp x) = 0
-ownNumber c (write o v) = ownWrite c o
-ownNumber c (read o) = cond (isOffset o) 0 4
-ownNumber c (signal x) = cond (endsNothing c x) 7 0

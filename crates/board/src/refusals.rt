@@ -9,7 +9,7 @@ ghost use Rattle.rules.specs.Registers.{isOffset};
 ghost use Rattle.rules.specs.Refusals.{inRange, endsNothing, tooShort, refusal};
 ghost use lib.Dec.{eqb};
 ghost use Rattle.board.specs.Types.{Board, powerUp};
-ghost use Rattle.board.specs.Does.{ownWrite, ownNumber};
+ghost use Rattle.rules.specs.Laws.Own.{ownWrite, ownNumber};
 ghost use Rattle.rules.specs.Laws.Refusals.{Ordinary};
 use crate::choose::pick;
 use crate::record::depth_of;

@@ -23,6 +23,7 @@ pub mod Bench
 pub mod Soundness
 pub mod Lasting
 pub mod Refusals
+pub mod Own
 pub mod Refused
 pub mod Targets
 pub mod Moved

@@ -4,7 +4,7 @@
 use Prim.Native.Nat.{ℕ, zero, suc, _≤_}
 use mathlib.Core.Path.{_≡_, refl, sym, ap, ap₂, _∙_, subst}
 use mathlib.Core.Logic.{_≢_}
-use mathlib.Core.Bool.{Bool, true, false, not, cond}
+use mathlib.Core.Bool.{Bool, true, false, cond}
 use mathlib.Core.List.{List}
 use native.Mathlib.Nat.{le-refl}
 use native.Mathlib.Omega.{arith}
@@ -12,18 +12,19 @@ use borrow.Author.Tests.{le-ltb, eqb-true}
 use lib.Dec.{eqb}
 use lib.ListN.{length, getD}
 use Rattle.rules.specs.Types.{Settings, Size, Core, Board, Event, powerUp, write, read, signal}
-use Rattle.rules.specs.Record.{State, depth, values, stored, soundCore, sound}
+use Rattle.rules.specs.Record.{State, values, stored, soundCore, sound}
 use Rattle.rules.specs.Clocks.{Play, Fate, lostToFull, fateNumber}
 use Rattle.rules.specs.Flags.{isFull}
-use Rattle.rules.specs.Registers.{isOffset}
 use Rattle.rules.specs.Play.{play}
 use Rattle.rules.specs.Place.{place}
 use Rattle.rules.specs.Size.{initialises, sizeAfter}
 use Rattle.rules.specs.Interrupt.{conditions, condition, requestHeld, edge, requestAfter}
-use Rattle.rules.specs.Refusals.{firstOf, tooShort, isReadOnly, endsNothing, standing, rows, refusal}
+use Rattle.rules.specs.Refusals.{refusal}
 use Rattle.rules.specs.Step.{Outcome, refused, played, boardBefore, done, step}
 use Rattle.rules.specs.Laws.Refusals.{Ordinary}
+use Rattle.rules.specs.Laws.Own.{ownNumber}
 use Rattle.rules.specs.Demand3.{NeverLower, same, deeper, larger, PowerUpAccepted, NoQuarter}
+use Rattle.rules.proofs.Own.{refusal-own}
 use Rattle.rules.proofs.Sizes.{_⊑_, full-mono}
 use Rattle.rules.proofs.Places.{onList}
 use Rattle.rules.proofs.Steps.{step-done, step-refused, refusal-answered, stored-length, Fit, fit-sound, Kept, kept}
@@ -34,21 +35,7 @@ use Rattle.rules.proofs.Lower.{OneToRules, one-to-rules}
 
 -- ---- An event's own refusal, once 3 and 2 are passed, is the core's alone
 
-own : Core → Event → ℕ
-own c (powerUp x) = 0
-own c (write o v) = cond (not (isOffset o)) 4 (cond (isReadOnly o) 5 (cond (c .calibration .running) 6 0))
-own c (read o) = cond (not (isOffset o)) 4 0
-own c (signal x) = cond (endsNothing c x) 7 0
-
-refusal-own : (s : State) (e : Event) → Ordinary e
-    → refusal s e ≡ cond (not (sound (s .board))) 3 (cond (tooShort (s .memory) (depth (s .board))) 2 (own (s .board .core) e))
-unfolding refusal rows standing firstOf own
-refusal-own s (powerUp x) h = absurd h
-refusal-own s (write o v) h = refl
-refusal-own s (read o) h = refl
-refusal-own s (signal x) h = refl
-
-refusal-fit : (s : State) (e : Event) → Ordinary e → soundCore (s .board .core) ≡ true → Fit s → refusal s e ≡ own (s .board .core) e
+refusal-fit : (s : State) (e : Event) → Ordinary e → soundCore (s .board .core) ≡ true → Fit s → refusal s e ≡ ownNumber (s .board .core) e
 unfolding sound
 refusal-fit s e o h f = refusal-own s e o ∙ rw (h, fit-sound s f, le-ltb _ _ (f .good .enough))
 
@@ -56,8 +43,8 @@ refusal-unsound : (s : State) (e : Event) → Ordinary e → soundCore (s .board
 unfolding sound
 refusal-unsound s e o h = refusal-own s e o ∙ rw h
 
-own-lower : {e e′ : Event} → NeverLower e e′ → (c : Core) → own c e ≡ own c e′
-unfolding own
+own-lower : {e e′ : Event} → NeverLower e e′ → (c : Core) → ownNumber c e ≡ ownNumber c e′
+unfolding ownNumber
 own-lower (same e) c = refl
 own-lower (deeper x d h) c = refl
 own-lower (larger v v′ h l) c = refl
@@ -205,7 +192,7 @@ ordinary-together s s′ {e} {e′} w o o′ r k = go (soundCore (s .board .core
         let t′ : soundCore (s′ .board .core) ≡ true = subst (λ (c : Core). soundCore c ≡ true) (r .core) t in
         let f = r .fit t in
         let f′ = r .fit′ t′ in
-        let owns = ap (λ (c : Core). own c e) (r .core) ∙ own-lower w (s′ .board .core) in
+        let owns = ap (λ (c : Core). ownNumber c e) (r .core) ∙ own-lower w (s′ .board .core) in
         same-number (refusal-fit s e o t f ∙ owns ∙ sym (refusal-fit s′ e′ o′ t′ f′)) (λ h. (f, f′)) _ refl
     go false t =
         let t′ : soundCore (s′ .board .core) ≡ false = subst (λ (c : Core). soundCore c ≡ false) (r .core) t in

@@ -1,6 +1,7 @@
 -- The rules once more, in other words than the definitions: a wrong definition breaks one of these. Proofs are in proofs/.
 pub mod Soundness
 pub mod Refusals
+pub mod Own
 pub mod Refused
 pub mod Moved
 pub mod Frames

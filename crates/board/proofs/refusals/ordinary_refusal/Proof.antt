@@ -1,6 +1,6 @@
 use borrow.Author.Needs.{needs}
 use borrow.Author.Tests.{eq-eqb, ne-eqb}
-use Rattle.board.proofs.Refused.{refusal-own}
+use Rattle.rules.proofs.Own.{refusal-own}
 use Rattle.board.proofs.refusals.ordinary_refusal.Statement.{statement}
 use Rattle.board.proofs.refusals.ordinary_refusal.Tie as tie
 

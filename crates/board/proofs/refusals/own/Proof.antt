@@ -1,5 +1,7 @@
+use Prim.Native.Nat.{ℕ}
 use borrow.Author.Needs.{needs}
-use Rattle.board.specs.Does.{ownNumber}
+use Rattle.rules.specs.Laws.Own.{ownNumber}
+use Rattle.board.proofs.Choices.{cond-not}
 use Rattle.board.proofs.refusals.own.Statement.{statement}
 use Rattle.board.proofs.refusals.own.Tie as tie
 
@@ -40,7 +42,8 @@ returns-2 c = rw (c .own-write .ensures, c .before .before .e .given .1)
 
 returns-3 : tie.Need-returns-3
 unfolding ownNumber
-returns-3 c = rw (c .pick .ensures, c .before .is-offset .ensures, c .before .before .before .e2 .given .1)
+returns-3 c =
+    rw (c .pick .ensures, c .before .is-offset .ensures, c .before .before .before .e2 .given .1, cond-not {A = ℕ})
 
 returns-4 : tie.Need-returns-4
 unfolding ownNumber
