@@ -109,23 +109,28 @@ extern "C" {
     ) -> u32;
 }
 
-/// One event. The memory may have any length: one that is too short for the board's depth is refused.
-pub fn event(record: &mut Record, memory: &mut [u32], event: Event) -> Answer {
-    let numbers = event.numbers();
-    let mut answer = [0; 4];
+/// The function itself, on numbers: answers 0, or why the call is not understood (hosts/c/nergutsai.h).
+/// Slices of any length may be handed in.
+pub fn call(record: &mut [u32], memory: &mut [u32], event: &[u32], answer: &mut [u32]) -> u32 {
     // The borrows make the four slices valid and apart from each other, which is all that the function asks.
-    let status = unsafe {
+    unsafe {
         nergutsai_event(
-            record.0.as_mut_ptr(),
-            record.0.len(),
+            record.as_mut_ptr(),
+            record.len(),
             memory.as_mut_ptr(),
             memory.len(),
-            numbers.as_ptr(),
-            numbers.len(),
+            event.as_ptr(),
+            event.len(),
             answer.as_mut_ptr(),
             answer.len(),
         )
-    };
+    }
+}
+
+/// One event. The memory may have any length: one that is too short for the board's depth is refused.
+pub fn event(record: &mut Record, memory: &mut [u32], event: Event) -> Answer {
+    let mut answer = [0; 4];
+    let status = call(&mut record.0, memory, &event.numbers(), &mut answer);
     assert_eq!(
         status, 0,
         "the lengths and the kind are right by their types"
