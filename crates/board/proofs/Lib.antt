@@ -2,12 +2,6 @@
 pub mod Choices
 pub mod Conditions
 pub mod Numbers
-pub mod Rings
-pub mod Passing
-pub mod Heads
-pub mod Group
-pub mod Moving
-pub mod Dealt
 pub mod Accepted
 pub mod Sobering
 pub mod Signals

@@ -12,7 +12,8 @@ use Rattle.rules.specs.Writes.{writeControl, writeMask, writeRate, writeAdjust,
 use Rattle.rules.specs.Play.{calibrationEnds, settles, onSignal}
 use Rattle.rules.specs.Place.{place}
 use Rattle.board.specs.Types.{Ring, Core, Signal, trigger, passed, failed, settled}
-use Rattle.board.specs.Does.{Does, coreOf, signalCore}
+use Rattle.moves.specs.Does.{Does}
+use Rattle.board.specs.Parts.{coreOf, signalCore}
 
 pub core-does : (d : ℕ) (p : Play) (ring : Ring) (m : List ℕ) (k c : Core) → p ≡ only c → k ≡ c
     → Does d p ring m (record { core = k; ring = ring; moved = 0; fate = 0 }) m

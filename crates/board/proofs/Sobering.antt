@@ -5,7 +5,7 @@ use Rattle.rules.specs.Bits.{bit}
 use Rattle.rules.specs.Writes.{bufferOf}
 use Rattle.rules.proofs.Choice.{either}
 use Rattle.board.specs.Types.{Core}
-use Rattle.board.specs.Does.{Sober}
+use Rattle.moves.specs.Ready.{Sober}
 
 pub buffer-sober : (v : ℕ) (c : Core) → Sober c → Sober (bufferOf v c)
 unfolding bufferOf
@@ -13,7 +13,4 @@ buffer-sober v c h =
     record {
       mask = h .mask;
       cursor = either (λ (n : ℕ). n ≤ 20) (bit 11 v) (omega arith) (h .cursor);
-      selection = h .selection;
-      nclk = h .nclk;
-      kit = h .kit;
     }

@@ -16,7 +16,7 @@ use Rattle.rules.proofs.Lasting.{done-stands}
 use Rattle.rules.proofs.Refusals.{refusal-stands}
 use Rattle.board.specs.Types.{Board, Event, powerUp, write, read, signal}
 use Rattle.board.specs.declared.Reply.{Reply}
-use Rattle.board.specs.Does.{Sized}
+use Rattle.board.specs.Parts.{Sized}
 use Rattle.board.specs.Promises.{Stepped}
 use Rattle.board.proofs.Standing.{stands-sized}
 

@@ -1,5 +1,4 @@
 pub mod Types
-pub mod Does
-pub mod Deal
+pub mod Parts
 pub mod Promises
 pub mod Unique

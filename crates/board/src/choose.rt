@@ -1,19 +1,8 @@
 // Choices without a branch in the caller.
 ghost use mathlib.Core.Path.{_≡_};
 ghost use mathlib.Core.Bool.{cond};
-ghost use Rattle.rules.specs.Bits.{onlyIf};
 use rules::Burst;
 use rules::Load;
-
-// a only if b
-pub(crate) fn only_if(a: bool, b: bool) -> bool
-    ensures { λ r. ⌜ r ≡ onlyIf a b ⌝ }
-{
-    if a {
-        return b;
-    }
-    true
-}
 
 pub(crate) fn pick(t: bool, x: u32, y: u32) -> u32
     ensures { λ r. ⌜ r ≡ cond t x y ⌝ }

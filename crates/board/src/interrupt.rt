@@ -1,10 +1,10 @@
 // The interrupt request, and the events that initialise.
 ghost use mathlib.Core.Path.{_≡_};
 ghost use mathlib.Core.Bool.{false};
-ghost use Rattle.board.specs.Does.{Sized};
+ghost use Rattle.board.specs.Parts.{Sized};
 ghost use Rattle.rules.specs.Size.{initialises, codeOf, sizeAfter};
 ghost use Rattle.rules.specs.Interrupt.{condition, requestHeld, edge, requestAfter};
-use crate::record::active_size;
+use crate::sizes::active_size;
 use crate::states::closed;
 use rules::Board;
 use rules::Event;

@@ -1,66 +1,26 @@
-// Events that may touch the stored values: loads, BOR writes, every write, every signal.
-ghost use Prim.Native.Nat.{_≤_, _<_};
+// Events that may touch the stored values: BOR writes, every write, every signal.
+ghost use Prim.Native.Nat.{_≤_};
 ghost use mathlib.Core.Path.{_≡_};
-ghost use mathlib.Core.Bool.{false};
-ghost use Rattle.board.specs.Does.{Ready, Does, Sober, listed, signalCore};
-ghost use Rattle.rules.specs.Writes.{initial, writeData, writeBuffer, onWrite};
+ghost use lib.Dec.{leb};
+ghost use Rattle.moves.specs.Ready.{Ready, Sober};
+ghost use Rattle.moves.specs.Does.{Does, listed};
+ghost use Rattle.board.specs.Parts.{signalCore};
+ghost use Rattle.rules.specs.Writes.{initial, writeBuffer, onWrite};
 ghost use Rattle.rules.specs.Play.{onSignal};
 use crate::clocks::on_outside;
 use crate::clocks::on_tick;
 use crate::clocks::on_trigger;
-use crate::play::Played;
-use crate::ring::put;
-use crate::states::closed;
 use crate::writes::buffer_of;
 use crate::writes::calibration_ends;
 use crate::writes::initial;
 use crate::writes::settled;
 use crate::writes::write_core;
+use moves::Played;
+use moves::load;
 use rules::Core;
 use rules::Options;
 use rules::Ring;
 use rules::Signal;
-
-// A write to 18h.
-pub(crate) fn load_value(
-    c: Core,
-    full: bool,
-    ring: Ring,
-    d: u32,
-    v: u32,
-    memory: &mut [u32],
-) -> Played
-    requires { ⌜ (Ready d ring (now memory) × (full ≡ false → ring .count < d)) ⌝ }
-    ensures { λ r. ⌜ Does d (writeData c full v) ring (now (memory .entry)) r (now (memory .exit)) ⌝ }
-{
-    if closed(c) {
-        let mut k = c;
-        k.lost.closed = true;
-        return Played {
-            core: k,
-            ring: ring,
-            moved: 0,
-            fate: 3,
-        };
-    }
-    if full {
-        let mut k = c;
-        k.lost.full = true;
-        return Played {
-            core: k,
-            ring: ring,
-            moved: 0,
-            fate: 2,
-        };
-    }
-    let stored = put(ring, d, v % 131072, memory);
-    Played {
-        core: c,
-        ring: stored,
-        moved: 0,
-        fate: 1,
-    }
-}
 
 // A write to 0Ch.
 pub(crate) fn write_buffer(c: Core, ring: Ring, d: u32, v: u32, memory: &mut [u32]) -> Played
@@ -102,21 +62,21 @@ pub(crate) fn initialised(o: Options) -> Played
 // A write to any offset that takes one.
 pub(crate) fn on_write(
     c: Core,
-    full: bool,
+    size: u32,
     ring: Ring,
     d: u32,
     o: u32,
     v: u32,
     memory: &mut [u32],
 ) -> Played
-    requires { ⌜ (Ready d ring (now memory) × Sober c × (full ≡ false → ring .count < d)) ⌝ }
-    ensures { λ r. ⌜ Does d (onWrite c (listed d ring (now (memory .entry))) full o v) ring (now (memory .entry)) r (now (memory .exit)) ⌝ }
+    requires { ⌜ (Ready d ring (now memory) × Sober c × (size ≤ d)) ⌝ }
+    ensures { λ r. ⌜ Does d (onWrite c (listed d ring (now (memory .entry))) (leb size (ring .count)) o v) ring (now (memory .entry)) r (now (memory .exit)) ⌝ }
 {
     if o == 12 {
         return write_buffer(c, ring, d, v, memory);
     }
     if o == 24 {
-        return load_value(c, full, ring, d, v, memory);
+        return load(c, size, ring, d, v, memory);
     }
     if (o == 0) & (v / 32768 % 2 == 1) {
         let options = c.options;

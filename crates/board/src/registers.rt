@@ -1,11 +1,11 @@
 // The registers as the bus reads them.
 ghost use mathlib.Core.Logic.{_≢_};
 ghost use mathlib.Core.Path.{_≡_};
-ghost use Rattle.board.specs.Does.{Sized};
+ghost use Rattle.board.specs.Parts.{Sized};
 ghost use Rattle.rules.specs.Bits.{number};
 ghost use Rattle.rules.specs.Registers.{readAt};
 use crate::choose::pick;
-use crate::record::active_size;
+use crate::sizes::active_size;
 use crate::states::closed;
 use rules::Board;
 

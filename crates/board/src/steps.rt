@@ -1,13 +1,11 @@
 // An event that is done, and one that is refused.
 ghost use mathlib.Core.Path.{_≡_};
-ghost use Rattle.board.specs.Does.{Ready, Does, Sober, Sized, listed};
-ghost use Rattle.board.specs.Types.{Ring};
+ghost use Rattle.moves.specs.Does.{Does};
+ghost use Rattle.board.specs.Parts.{Sized};
 ghost use Rattle.board.specs.Promises.{Stepped};
 ghost use Rattle.rules.specs.Laws.Soundness.{Stands};
 ghost use Rattle.rules.specs.Laws.Refusals.{Ordinary};
-ghost use Rattle.rules.specs.Play.{play};
-ghost use Rattle.rules.specs.Record.{State, depth};
-ghost use Rattle.rules.specs.Flags.{isFull};
+ghost use Rattle.rules.specs.Record.{depth};
 ghost use Rattle.rules.specs.Refusals.{refusal};
 ghost use Rattle.rules.specs.Size.{sizeAfter};
 ghost use Rattle.rules.specs.Interrupt.{requestHeld};
@@ -19,10 +17,10 @@ use crate::interrupt::size_after;
 use crate::loads::initialised;
 use crate::loads::on_signal;
 use crate::loads::on_write;
-use crate::play::Played;
-use crate::record::active_size;
-use crate::record::depth_of;
 use crate::registers::read_at;
+use crate::sizes::active_size;
+use moves::Played;
+use record::depth;
 use rules::Answer;
 use rules::Board;
 use rules::Event;
@@ -61,10 +59,9 @@ pub(crate) fn played(b: Board, memory: &mut [u32], e: Event) -> Played
             })
         }
         Event::Write { offset, value } => {
-            let d = depth_of(b.size.fitted);
-            let size = b.size;
-            let full = active_size(size) <= ring.count;
-            on_write(core, full, ring, d, offset, value, memory)
+            let d = depth(b);
+            let size = active_size(b.size);
+            on_write(core, size, ring, d, offset, value, memory)
         }
         Event::Read { offset: _ } => Played {
             core: core,
@@ -73,7 +70,7 @@ pub(crate) fn played(b: Board, memory: &mut [u32], e: Event) -> Played
             fate: 0,
         },
         Event::Signal(x) => {
-            let d = depth_of(b.size.fitted);
+            let d = depth(b);
             on_signal(core, ring, d, x, memory)
         }
     }

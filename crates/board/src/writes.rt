@@ -1,12 +1,12 @@
 // Writes, calibration ends and settling, as changes of the core.
 ghost use mathlib.Core.Path.{_≡_};
-ghost use Rattle.board.specs.Does.{coreOf};
+ghost use Rattle.board.specs.Parts.{coreOf};
 ghost use Rattle.rules.specs.Writes.{initial, controlOf, burstOf, cursorOf, calibrationOf, writeControl, writeMask, writeRate, writeAdjust, modeOf, lostOf, loadKept, loadAsked, bufferOf};
 ghost use Rattle.rules.specs.Play.{calibrationEnds, settles};
 use crate::choose::pick;
 use crate::choose::pick_burst;
 use crate::choose::pick_load;
-use crate::record::mask_limit;
+use record::mask_limit;
 use rules::Burst;
 use rules::Calibration;
 use rules::Clock;

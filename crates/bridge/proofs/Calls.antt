@@ -9,8 +9,9 @@ use lib.ListN.{length}
 use Rattle.rules.specs.Step.{Outcome, step}
 use Rattle.board.specs.Promises.{Stepped}
 use Rattle.board.specs.declared.Reply.{Reply}
-use Rattle.layout.specs.Layout.{boardAt, rowOf, toldOf, written}
+use Rattle.layout.specs.Layout.{boardAt, rowOf, toldOf}
 use Rattle.layout.specs.Promises.{Told}
+use Rattle.rows.specs.Promises.{written}
 use Rattle.bridge.specs.Types.{Board, Event}
 use Rattle.bridge.specs.Events.{eventAt}
 use Rattle.bridge.specs.Calls.{Left, status, answerRow, leftBy, left}

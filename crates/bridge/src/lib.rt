@@ -1,5 +1,4 @@
 // One event on rows of numbers, for hosts in Rust and C. A slice is a pointer and then a length on their side (hosts/).
-ghost use Prim.Native.Nat.{ℕ};
 ghost use mathlib.Core.Path.{_≡_};
 ghost use mathlib.Core.Bool.{cond};
 ghost use lib.Dec.{eqb};
@@ -10,7 +9,7 @@ ghost use Rattle.bridge.specs.Calls.{Fits, status, answerRow};
 ghost use Rattle.bridge.specs.Promises.{Called};
 use board::step;
 use layout::board_at;
-use layout::put_board;
+use rows::put_board;
 use rules::Answer;
 use rules::Board;
 use rules::Event;

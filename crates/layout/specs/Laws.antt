@@ -1,13 +1,12 @@
--- The row once more, in other words than the definitions, and that the promises leave no choice. Proofs are in proofs/.
+-- The row once more, in other words than the definitions, and that the promise leaves no choice. Proofs are in proofs/.
 use Prim.Native.Nat.{ℕ, _<_}
 use mathlib.Core.Path.{_≡_}
-use mathlib.Core.Bool.{Bool}
 use mathlib.Core.List.{List}
 use lib.ListN.{length, getD}
 use Rattle.rules.specs.declared.Board.{Board}
 use Rattle.rules.specs.Record.{levelSpan}
 use Rattle.layout.specs.Layout.{boardAt, rowOf}
-use Rattle.layout.specs.Promises.{Told, Put}
+use Rattle.layout.specs.Promises.{Told}
 
 -- ---- The row
 
@@ -23,12 +22,7 @@ Row-length = (b : Board) → length (b .core .outputs .levels) ≡ 20 → length
 abbrev pub Round-trip : Type 0
 Round-trip = (b : Board) → Twenty (b .core .outputs .levels) → boardAt (rowOf b) ≡ b
 
--- ---- The promises: any two outcomes that one allows are equal
+-- ---- The promise: any two outcomes that it allows are equal
 
 abbrev pub Told-one : Type 0
 Told-one = (row : List ℕ) (r r′ : Board) → Told row r → Told row r′ → r ≡ r′
-
-abbrev pub Put-one : Type 0
-Put-one =
-    (b : Board) (row : List ℕ) (r r′ : Bool) (left left′ : List ℕ) → Put b row r left → Put b row r′ left′
-    → (r ≡ r′) × (left ≡ left′)

@@ -110,12 +110,8 @@ rowOf b =
     ∷ flag (b .request) ∷ b .ring .first ∷ b .ring .count
     ∷ c .outputs .levels
 
--- ---- The promises
+-- ---- The promise
 
 -- a row of 55 numbers is read; any other is not understood, and reads as the unpowered record
 unfoldable pub toldOf : List ℕ → Board
 toldOf row = cond (eqb (length row) 55) (boardAt row) unpowered
-
--- a row of 55 numbers holds the record afterwards; any other is as it was
-unfoldable pub written : Board → List ℕ → List ℕ
-written b row = cond (eqb (length row) 55) (rowOf b) row

@@ -1,4 +1,3 @@
 pub mod Layout
-pub mod Rows
 pub mod Promises
 pub mod Laws

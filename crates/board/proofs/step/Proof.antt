@@ -6,11 +6,11 @@ use Rattle.board.proofs.Whole.{refused-stepped}
 use Rattle.board.proofs.step.Statement.{statement}
 use Rattle.board.proofs.step.Tie as tie
 
-refusal-of-requires : tie.Need-refusal-of-requires
-refusal-of-requires c κs = search needs
+refusal-requires : tie.Need-refusal-requires
+refusal-requires c κs = search needs
 
 done-requires : tie.Need-done-requires
-done-requires c κs = sym (c .before .before .refusal-of .ensures _ refl) ∙ c .before .if1 .taken
+done-requires c κs = sym (c .before .before .refusal .ensures .told _ refl) ∙ c .before .if1 .taken
 
 same-length : tie.Need-same-length
 same-length c = search needs
@@ -26,9 +26,9 @@ returns-2 c =
     let a = c .before .before .before .before .args in
     let s : State = record { board = a .b; memory = a .memory .now } in
     let r = c .refused .ensures in
-    refused-stepped s (a .e) _ _ (c .before .before .refusal-of .ensures _ refl) (c .before .if1 .left) (r .0) (r .1)
+    refused-stepped s (a .e) _ _ (c .before .before .refusal .ensures .told _ refl) (c .before .if1 .left) (r .0) (r .1)
 
 pub step-spec : {M : Type 1} → statement M
 step-spec =
     tie.close
-    (tie.spec refusal-of-requires done-requires same-length returns refused-requires returns-2)
+    (tie.spec refusal-requires done-requires same-length returns refused-requires returns-2)

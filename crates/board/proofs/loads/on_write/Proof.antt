@@ -7,6 +7,7 @@ use Rattle.rules.specs.Bits.{bit}
 use Rattle.rules.specs.Writes.{onWrite}
 use Rattle.rules.specs.Place.{place}
 use Rattle.rules.proofs.Choice.{and-both}
+use Rattle.moves.proofs.Entries.{loaded-does}
 use Rattle.board.proofs.Signals.{core-does, plays-core}
 use Rattle.board.proofs.loads.on_write.Statement.{statement}
 use Rattle.board.proofs.loads.on_write.Tie as tie
@@ -21,15 +22,20 @@ returns : tie.Need-returns
 unfolding onWrite
 returns c = rw (c .before .before .before .before .if1 .taken) (c .before .before .write-buffer .ensures)
 
-load-value-requires : tie.Need-load-value-requires
-load-value-requires c κs = search needs
+load-requires : tie.Need-load-requires
+load-requires c κs = search needs
 
 same-length-2 : tie.Need-same-length-2
 same-length-2 c = search needs
 
 returns-2 : tie.Need-returns-2
 unfolding onWrite
-returns-2 c = rw (c .before .before .before .before .if2 .taken) (c .before .before .load-value .ensures)
+returns-2 c =
+    let t = c .before .before .before .before in
+    let b = t .before .before .before in
+    let a = b .args in
+    rw (t .if2 .taken)
+    (loaded-does (a .c) (a .size) (a .ring) (a .d) (a .v) (a .memory .now) _ _ (b .pre .0) (b .pre .2) (c .before .before .load .ensures))
 
 initialised-requires : tie.Need-initialised-requires
 initialised-requires c κs = search needs
@@ -59,7 +65,7 @@ on-write-spec =
     write-buffer-requires
     same-length
     returns
-    load-value-requires
+    load-requires
     same-length-2
     returns-2
     initialised-requires

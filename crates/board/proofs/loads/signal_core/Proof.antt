@@ -1,6 +1,6 @@
 -- Each arm is the core of its signal's play.
 use borrow.Author.Needs.{needs}
-use Rattle.board.specs.Does.{signalCore}
+use Rattle.board.specs.Parts.{signalCore}
 use Rattle.board.proofs.loads.signal_core.Statement.{statement}
 use Rattle.board.proofs.loads.signal_core.Tie as tie
 

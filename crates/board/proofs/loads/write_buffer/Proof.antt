@@ -6,8 +6,8 @@ use borrow.Author.Tests.{eq-eqb, ne-eqb}
 use Rattle.rules.specs.Bits.{bit}
 use Rattle.rules.specs.Writes.{tried, writeBuffer}
 use Rattle.rules.specs.Place.{place}
-use Rattle.board.specs.Does.{Sober}
-use Rattle.board.proofs.Accepted.{only-does}
+use Rattle.moves.specs.Ready.{Sober}
+use Rattle.moves.proofs.Standing.{only-does}
 use Rattle.board.proofs.Sobering.{buffer-sober}
 use Rattle.board.proofs.loads.write_buffer.Statement.{statement}
 use Rattle.board.proofs.loads.write_buffer.Tie as tie

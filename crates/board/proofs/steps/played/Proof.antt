@@ -4,9 +4,9 @@ use borrow.Author.Needs.{needs}
 use Rattle.rules.specs.Record.{stored}
 use Rattle.rules.specs.Play.{play}
 use Rattle.rules.specs.Place.{place}
-use Rattle.rules.proofs.Sizes.{full-room}
-use Rattle.board.proofs.Accepted.{only-does}
-use Rattle.board.proofs.Standing.{stands-ready, stands-sober}
+use Rattle.rules.proofs.Sizes.{size-depth}
+use Rattle.moves.proofs.Standing.{only-does}
+use Rattle.board.proofs.Standing.{stands-ready, stands-sober, depth-told}
 use Rattle.board.proofs.steps.played.Statement.{statement}
 use Rattle.board.proofs.steps.played.Tie as tie
 
@@ -19,18 +19,21 @@ initialised-requires c κs = search needs
 enum-known-e-2 : tie.Need-enum-known-e-2
 enum-known-e-2 c = search needs
 
-depth-of-requires : tie.Need-depth-of-requires
-depth-of-requires c κs = (c .before .before .before .before .before .before .pre (rw (c .before .e2 .given .1) tt)) .sound .fitted
+depth-requires : tie.Need-depth-requires
+depth-requires c κs = search needs
 
 active-size-requires : tie.Need-active-size-requires
-active-size-requires c κs = (c .before .before .before .before .before .before .before .before .pre (rw (c .before .before .before .e2 .given .1) tt)) .sound .fitted
+active-size-requires c κs =
+    let e = c .before .before in
+    (e .before .before .before .before .before .pre (rw (e .e2 .given .1) tt)) .sound .fitted
 
 on-write-requires : tie.Need-on-write-requires
 on-write-requires c κs =
-    let a = c .before .before .before .before .before .before .before .before .before .before .before .args in
-    let st = c .before .before .before .before .before .before .before .before .before .before .before .pre (rw (c .before .before .before .before .before .before .e2 .given .1) tt) in
-    rw (c .before .before .before .before .depth-of .ensures .0, c .before .before .active-size .ensures .0)
-    (stands-ready _ st, stands-sober _ st, full-room (a .b .size) (a .b .ring .count))
+    let e = c .before .before .before .before in
+    let b = e .before .before .before .before .before in
+    let st = b .pre (rw (e .e2 .given .1) tt) in
+    rw (depth-told (b .args .b) _ (c .before .before .depth .ensures) (st .sound .fitted), c .before .active-size .ensures .0)
+    (stands-ready _ st, stands-sober _ st, size-depth (b .args .b .size))
 
 enum-told : tie.Need-enum-told
 enum-told c = search needs
@@ -38,13 +41,15 @@ enum-told c = search needs
 enum-known-e-3 : tie.Need-enum-known-e-3
 enum-known-e-3 c = search needs
 
-depth-of-requires-2 : tie.Need-depth-of-requires-2
-depth-of-requires-2 c κs = (c .before .before .before .before .before .before .pre (rw (c .before .e3 .given .1) tt)) .sound .fitted
+depth-requires-2 : tie.Need-depth-requires-2
+depth-requires-2 c κs = search needs
 
 on-signal-requires : tie.Need-on-signal-requires
 on-signal-requires c κs =
-    let st = c .before .before .before .before .before .before .before .before .pre (rw (c .before .before .before .e3 .given .1) tt) in
-    rw (c .before .depth-of2 .ensures .0) (stands-ready _ st, stands-sober _ st)
+    let e = c .before .before .before in
+    let b = e .before .before .before .before .before in
+    let st = b .pre (rw (e .e3 .given .1) tt) in
+    rw (depth-told (b .args .b) _ (c .before .depth2 .ensures) (st .sound .fitted)) (stands-ready _ st, stands-sober _ st)
 
 returns : tie.Need-returns
 unfolding play place
@@ -58,7 +63,12 @@ same-length c = search needs
 returns-2 : tie.Need-returns-2
 unfolding play stored
 returns-2 c =
-    rw (c .before .before .before .before .before .before .before .before .before .e2 .given .1, ← (c .before .before .before .before .before .before .before .depth-of .ensures .0), ← (c .before .before .before .before .before .active-size .ensures .0)) (c .before .before .on-write .ensures)
+    let d = c .before .before .before .before .before in
+    let e = d .before .before in
+    let b = e .before .before .before .before .before in
+    let st = b .pre (rw (e .e2 .given .1) tt) in
+    rw (e .e2 .given .1, ← (depth-told (b .args .b) _ (d .depth .ensures) (st .sound .fitted)), ← (c .before .before .before .before .active-size .ensures .0))
+    (c .before .before .on-write .ensures)
 
 returns-3 : tie.Need-returns-3
 unfolding play
@@ -70,7 +80,11 @@ same-length-2 c = search needs
 returns-4 : tie.Need-returns-4
 unfolding play stored
 returns-4 c =
-    rw (c .before .before .before .before .before .before .e3 .given .1, ← (c .before .before .before .before .depth-of2 .ensures .0)) (c .before .before .on-signal .ensures)
+    let d = c .before .before .before .before in
+    let e = d .before .before in
+    let b = e .before .before .before .before .before in
+    let st = b .pre (rw (e .e3 .given .1) tt) in
+    rw (e .e3 .given .1, ← (depth-told (b .args .b) _ (d .depth2 .ensures) (st .sound .fitted))) (c .before .before .on-signal .ensures)
 
 pub played-spec : {M : Type 1} → statement M
 played-spec =
@@ -79,12 +93,12 @@ played-spec =
     enum-known-e
     initialised-requires
     enum-known-e-2
-    depth-of-requires
+    depth-requires
     active-size-requires
     on-write-requires
     enum-told
     enum-known-e-3
-    depth-of-requires-2
+    depth-requires-2
     on-signal-requires
     returns
     same-length

@@ -1,7 +1,7 @@
 -- Each test of the offset is the one that `coreOf` makes.
 use borrow.Author.Tests.{eq-eqb, ne-eqb}
 use borrow.Author.Needs.{needs}
-use Rattle.board.specs.Does.{coreOf}
+use Rattle.board.specs.Parts.{coreOf}
 use Rattle.board.proofs.writes.write_core.Statement.{statement}
 use Rattle.board.proofs.writes.write_core.Tie as tie
 

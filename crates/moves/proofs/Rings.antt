@@ -1,0 +1,33 @@
+-- The ring of the stored values: its places lie below the depth, and what it holds after a value left.
+use Prim.Native.Nat.{ℕ, zero, suc, _%_, _≤_, _<_}
+use mathlib.Core.Bool.{Bool, true, false, cond}
+use mathlib.Core.List.{List, _++_}
+use native.Mathlib.Nat.{mod-lt}
+use native.Mathlib.Omega.{arith}
+use lib.ListN.{take, drop}
+use Rattle.rules.specs.Clocks.{leave, recirculate}
+use Rattle.rules.specs.Place.{Place, times, place}
+use Rattle.rules.proofs.Places.{Good, Placed, listed, onList, placed-op}
+use Rattle.rules.specs.declared.Ring.{Ring}
+use Rattle.moves.specs.Ready.{Ready}
+use Rattle.moves.specs.Does.{placeOf}
+use Rattle.moves.specs.Deal.{left}
+
+pub ready-good : {d : ℕ} {r : Ring} {m : List ℕ} → Ready d r m → Good d (placeOf r m)
+ready-good h = record { first-lt = h .first; count-le = h .count; enough = h .enough }
+
+-- the depth is not 0 where a ring has a first place
+pub place-below : {d : ℕ} {r : Ring} {m : List ℕ} → Ready d r m → (n : ℕ) → n % d < d
+place-below h n = mod-lt n (omega (arith, h .first))
+
+-- ---- One value leaves, and is stored again or not
+
+pub left-placed : (again : Bool) (d : ℕ) (p : Place) → Good d p → zero < p .ring .count
+    → Placed d p (left again d p) (cond again (drop 1 (listed d p) ++ take 1 (listed d p)) (drop 1 (listed d p)))
+unfolding place times onList
+left-placed true d p g h = placed-op d (recirculate 1) p g h
+left-placed false d p g h = placed-op d (leave 1) p g h
+
+pub left-count : (again : Bool) (d : ℕ) (p : Place) → p .ring .count ≤ suc ((left again d p) .ring .count)
+left-count true d p = omega arith
+left-count false d p = omega arith

@@ -1,0 +1,5 @@
+pub mod Ready
+pub mod Does
+pub mod Deal
+pub mod Promises
+pub mod Unique

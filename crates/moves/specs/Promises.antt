@@ -1,0 +1,21 @@
+-- The promises of the public functions: each fixes every outcome, the memory too.
+use Prim.Native.Nat.{ℕ}
+use mathlib.Core.Bool.{cond}
+use mathlib.Core.List.{List}
+use lib.Dec.{leb}
+use lib.ListN.{length}
+use Rattle.rules.specs.declared.Core.{Core}
+use Rattle.rules.specs.declared.Ring.{Ring}
+use Rattle.moves.specs.declared.Played.{Played}
+use Rattle.rules.specs.Clocks.{only, clock}
+use Rattle.rules.specs.Writes.{writeData}
+use Rattle.moves.specs.Ready.{canClock, canLoad}
+use Rattle.moves.specs.Does.{Does, listed}
+
+-- an accepted clock; a core and a ring that do not fit the memory stay as they are
+pub record Clocked (c : Core) (ring : Ring) (d : ℕ) (m : List ℕ) (r : Played) (m′ : List ℕ) : Type 0 where
+  pub does : Does d (cond (canClock c ring d (length m)) (clock c (listed d ring m)) (only c)) ring m r m′
+
+-- a write of v to 18h; full is what holds the active size or more
+pub record Loaded (c : Core) (size : ℕ) (ring : Ring) (d v : ℕ) (m : List ℕ) (r : Played) (m′ : List ℕ) : Type 0 where
+  pub does : Does d (cond (canLoad size ring d (length m)) (writeData c (leb size (ring .count)) v) (only c)) ring m r m′

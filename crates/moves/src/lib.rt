@@ -1,0 +1,57 @@
+// The values that move: those that an accepted clock takes to the channels, and one that a load stores.
+// Every call takes every input. What each promises is in specs/Promises.antt.
+ghost use Rattle.moves.specs.Promises.{Clocked, Loaded};
+use crate::clocks::run_clock;
+use crate::loads::load_value;
+use crate::ready::can_clock;
+use crate::ready::can_load;
+use rules::Core;
+use rules::Ring;
+
+mod channels;
+mod clocks;
+mod deal;
+mod loads;
+mod ready;
+mod ring;
+mod states;
+
+// What an event that is not refused did, with the stored values at their places.
+pub struct Played {
+    pub core: Core,
+    pub ring: Ring,
+    pub moved: u32,
+    pub fate: u32,
+}
+
+// An accepted clock on a core and its ring, in a memory of which the first d values are the board's. Where the ring does not lie
+// in them, or the core's mask or cursor is out of range, nothing moves.
+pub fn clock(c: Core, ring: Ring, d: u32, memory: &mut [u32]) -> Played
+    ensures { λ r. ⌜ Clocked c ring d (now (memory .entry)) r (now (memory .exit)) ⌝ }
+{
+    if can_clock(c, ring, d, memory.len()) {
+        return run_clock(c, ring, d, memory);
+    }
+    Played {
+        core: c,
+        ring: ring,
+        moved: 0,
+        fate: 0,
+    }
+}
+
+// A write of v to 18h, where the buffer takes values up to the active size. Where the ring does not lie in the first d values of the
+// memory, or the active size is above d, nothing is stored.
+pub fn load(c: Core, size: u32, ring: Ring, d: u32, v: u32, memory: &mut [u32]) -> Played
+    ensures { λ r. ⌜ Loaded c size ring d v (now (memory .entry)) r (now (memory .exit)) ⌝ }
+{
+    if can_load(size, ring, d, memory.len()) {
+        return load_value(c, size <= ring.count, ring, d, v, memory);
+    }
+    Played {
+        core: c,
+        ring: ring,
+        moved: 0,
+        fate: 0,
+    }
+}

@@ -1,0 +1,22 @@
+-- Any two outcomes that a promise allows are equal.
+use Prim.Native.Nat.{ℕ}
+use mathlib.Core.Path.{_≡_}
+use mathlib.Core.Bool.{Bool}
+use Rattle.rules.specs.declared.Board.{Board}
+use Rattle.rules.specs.declared.Event.{Event}
+use Rattle.record.specs.Promises.{Unpowered, SoundTold, DepthTold, LimitTold, Refused}
+
+abbrev pub Unpowered-unique : Type 0
+Unpowered-unique = (r r′ : Board) → Unpowered r → Unpowered r′ → r ≡ r′
+
+abbrev pub Sound-unique : Type 0
+Sound-unique = (b : Board) (r r′ : Bool) → SoundTold b r → SoundTold b r′ → r ≡ r′
+
+abbrev pub Depth-unique : Type 0
+Depth-unique = (b : Board) (r r′ : ℕ) → DepthTold b r → DepthTold b r′ → r ≡ r′
+
+abbrev pub Limit-unique : Type 0
+Limit-unique = (kit r r′ : ℕ) → LimitTold kit r → LimitTold kit r′ → r ≡ r′
+
+abbrev pub Refused-unique : Type 0
+Refused-unique = (b : Board) (len : ℕ) (e : Event) (r r′ : ℕ) → Refused b len e r → Refused b len e r′ → r ≡ r′

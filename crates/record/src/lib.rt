@@ -1,0 +1,135 @@
+// A board record by itself: the unpowered one, whether one is sound, its depth, and which events are refused.
+// Every call takes every input. What each promises is in specs/Promises.antt.
+ghost use Rattle.record.specs.Promises.{Unpowered, SoundTold, DepthTold, LimitTold, Refused};
+use crate::refusals::ordinary_refusal;
+use crate::refusals::power_up_refusal;
+use crate::soundness::depth_of;
+use crate::soundness::sound;
+use rules::Board;
+use rules::Burst;
+use rules::Calibration;
+use rules::Clock;
+use rules::Control;
+use rules::Core;
+use rules::Event;
+use rules::Load;
+use rules::Lost;
+use rules::Mode;
+use rules::Options;
+use rules::Outputs;
+use rules::Ring;
+use rules::Size;
+
+mod refusals;
+mod soundness;
+
+// The record that a run starts from. 01: "The unpowered record is all zero."
+pub fn unpowered() -> Board
+    ensures { λ r. ⌜ Unpowered r ⌝ }
+{
+    let core = Core {
+        powered: false,
+        options: Options {
+            range: 0,
+            filter: 0,
+            kit: 0,
+            firmware: 0,
+        },
+        control: Control {
+            bursts: false,
+            ground: false,
+            binary: false,
+            differential: false,
+            barred: false,
+            simultaneous: false,
+            selection: 0,
+        },
+        mode: Mode {
+            external: false,
+            enabled: false,
+            circular: false,
+        },
+        calibration: Calibration {
+            running: false,
+            failed: false,
+            calibrated: false,
+        },
+        clock: Clock {
+            divisor: 0,
+            nclk: 0,
+            alt: false,
+            settling: false,
+        },
+        burst: Burst {
+            running: false,
+            software: false,
+        },
+        load: Load {
+            pending: false,
+            opened: false,
+        },
+        lost: Lost {
+            full: false,
+            closed: false,
+        },
+        outputs: Outputs {
+            mask: 0,
+            cursor: 0,
+            levels: [0; 20],
+        },
+    };
+    let size = Size { fitted: 0, code: 0 };
+    let ring = Ring { first: 0, count: 0 };
+    Board {
+        core: core,
+        size: size,
+        request: false,
+        ring: ring,
+    }
+}
+
+// Whether a record is sound.
+pub fn is_sound(b: Board) -> bool
+    ensures { λ r. ⌜ SoundTold b r ⌝ }
+{
+    sound(b)
+}
+
+// The depth of a record, 0 where its fitted code is out of range.
+pub fn depth(b: Board) -> u32
+    ensures { λ r. ⌜ DepthTold b r ⌝ }
+{
+    let d = b.size.fitted;
+    if d <= 15 {
+        return depth_of(d);
+    }
+    0
+}
+
+// One more than the highest mask of a kit's channels.
+pub fn mask_limit(kit: u32) -> u32
+    ensures { λ r. ⌜ LimitTold kit r ⌝ }
+{
+    if kit == 0 {
+        return 64;
+    }
+    if kit == 1 {
+        return 4096;
+    }
+    1048576
+}
+
+// The number by which an event is refused on a record and a sample memory of `len` values; 0 where it is not.
+pub fn refusal(b: Board, len: usize, e: Event) -> u32
+    ensures { λ r. ⌜ Refused b len e r ⌝ }
+{
+    match e {
+        Event::PowerUp(x) => power_up_refusal(x, len),
+        Event::Write {
+            offset: _,
+            value: _,
+        } => ordinary_refusal(b, len, e),
+        Event::Read { offset: _ } => ordinary_refusal(b, len, e),
+        Event::Signal(_) => ordinary_refusal(b, len, e),
+    }
+}
