@@ -1,4 +1,4 @@
--- The proofs of specs/Laws, of the bench table and of demand 3; each file opens with what it shows.
+-- The proofs of specs/Laws, and of the bench table; each file opens with what it shows.
 
 -- tools
 pub mod Open
@@ -40,9 +40,3 @@ pub mod Written
 pub mod Interrupts
 pub mod Rates
 pub mod Runs
--- demand 3
-pub mod FullOnly
-pub mod Lower
-pub mod TwoRuns
-pub mod Demand3
-pub mod Examples

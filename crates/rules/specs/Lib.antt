@@ -17,5 +17,3 @@ pub mod Rates
 pub mod Session
 pub mod Bench
 pub mod Laws
-pub mod Demand3
-pub mod Examples

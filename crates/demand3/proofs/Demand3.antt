@@ -5,14 +5,15 @@ use mathlib.Core.Bool.{false≢true}
 use mathlib.Core.List.{List, [], _∷_}
 use native.Mathlib.Nat.{le-refl}
 use lib.ListN.{take}
-use Rattle.rules.specs.Types.{Core, Event}
+use Rattle.rules.specs.declared.Core.{Core}
+use Rattle.rules.specs.declared.Event.{Event}
 use Rattle.rules.specs.Bits.{all}
 use Rattle.rules.specs.Record.{State, values, stored, soundCore, unpowered, start}
 use Rattle.rules.specs.Clocks.{closed}
 use Rattle.rules.specs.Step.{step}
 use Rattle.rules.specs.Session.{outcomes, after}
-use Rattle.rules.specs.Demand3.{AllNeverLower, none, next, PowerUpsAccepted, NothingLost, NoQuarters, Alike, SameAnswers, Agree, Demand3, Demand3-from-any, Demand3-as-ordered}
-use Rattle.rules.proofs.TwoRuns.{Related, Together, step-together, up-request, power-up-together}
+use Rattle.demand3.specs.Demand3.{AllNeverLower, none, next, PowerUpsAccepted, NothingLost, NoQuarters, Alike, SameAnswers, Agree, Demand3, Demand3-from-any, Demand3-as-ordered}
+use Rattle.demand3.proofs.TwoRuns.{Related, Together, step-together, up-request, power-up-together}
 
 -- ---- Two runs from related states
 

@@ -7,13 +7,14 @@ use native.Mathlib.Omega.{arith}
 use borrow.Author.Tests.{eqb-true, eqb-false, not-true}
 use lib.Dec.{eqb}
 use lib.ListN.{length}
-use Rattle.rules.specs.Types.{Event, powerUp, write, read, signal}
+use Rattle.rules.specs.declared.Event.{Event}
+use Rattle.rules.specs.declared.Event.the-variants.{PowerUp as powerUp, Write as write, Read as read, Signal as signal}
 use Rattle.rules.specs.Record.{State}
 use Rattle.rules.specs.Step.{step}
-use Rattle.rules.specs.Demand3.{NeverLower, same, deeper, larger, AllNeverLower, none, next, PowerUpAccepted, PowerUpsAccepted, NothingLost, NoQuarter, NoQuarters}
-use Rattle.rules.specs.Examples.{settings, firstRun, secondRun, firstStart, secondStart, tooSmall, largeEnough, Demand3-met, Loss-matters}
+use Rattle.demand3.specs.Demand3.{NeverLower, same, deeper, larger, AllNeverLower, none, next, PowerUpAccepted, PowerUpsAccepted, NothingLost, NoQuarter, NoQuarters}
+use Rattle.demand3.specs.Examples.{settings, firstRun, secondRun, firstStart, secondStart, tooSmall, largeEnough, Demand3-met, Loss-matters}
 use Rattle.rules.proofs.Choice.{and-both}
 use Rattle.rules.proofs.Open.{rules-open}
 
 -- ---- The premises as tests
 

@@ -5,15 +5,18 @@ use mathlib.Core.Bool.{Bool, true, false, cond, _&&_}
 use mathlib.Core.List.{List}
 use native.Mathlib.Nat.{le-refl}
 use lib.Dec.{eqb}
-use Rattle.rules.specs.Types.{Size, Core, Event, powerUp, write, read, signal}
+use Rattle.rules.specs.declared.Size.{Size}
+use Rattle.rules.specs.declared.Core.{Core}
+use Rattle.rules.specs.declared.Event.{Event}
+use Rattle.rules.specs.declared.Event.the-variants.{PowerUp as powerUp, Write as write, Read as read, Signal as signal}
 use Rattle.rules.specs.Bits.{bit}
 use Rattle.rules.specs.Writes.{loadKept, loadAsked, bufferOf, writeBuffer, onWrite}
 use Rattle.rules.specs.Play.{play}
 use Rattle.rules.specs.Size.{initialises, codeOf, sizeAfter}
 use Rattle.rules.specs.Interrupt.{requestHeld}
-use Rattle.rules.specs.Demand3.{NeverLower, same, deeper, larger}
+use Rattle.demand3.specs.Demand3.{NeverLower, same, deeper, larger}
 use Rattle.rules.proofs.Masks.{bit-shift}
 use Rattle.rules.proofs.Sizes.{_⊑_}
 
 -- a bit from 4 up is a bit of v over 16
 high-bit : (v v′ : ℕ) → v / 16 ≡ v′ / 16 → (k : ℕ) → bit (4 + k) v ≡ bit (4 + k) v′

@@ -9,11 +9,13 @@ use mathlib.Core.Path.{_≡_}
 use mathlib.Core.Logic.{_≢_}
 use mathlib.Core.List.{List, [], _∷_}
 use lib.ListN.{take}
-use Rattle.rules.specs.Types.{Settings, Event, powerUp, write, read, signal}
+use Rattle.rules.specs.declared.Settings.{Settings}
+use Rattle.rules.specs.declared.Event.{Event}
+use Rattle.rules.specs.declared.Event.the-variants.{PowerUp as powerUp, Write as write, Read as read, Signal as signal}
 use Rattle.rules.specs.Record.{State, stored, start}
 use Rattle.rules.specs.Clocks.{closed}
 use Rattle.rules.specs.Step.{Outcome, step}
 use Rattle.rules.specs.Session.{outcomes, after}
 
 -- ---- "one session twice, .. the second with fitted depth and size codes never lower"
 

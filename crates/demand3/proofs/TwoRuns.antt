@@ -11,27 +11,32 @@ use native.Mathlib.Omega.{arith}
 use borrow.Author.Tests.{le-ltb, eqb-true}
 use lib.Dec.{eqb}
 use lib.ListN.{length, getD}
-use Rattle.rules.specs.Types.{Settings, Size, Core, Board, Event, powerUp, write, read, signal}
+use Rattle.rules.specs.declared.Settings.{Settings}
+use Rattle.rules.specs.declared.Size.{Size}
+use Rattle.rules.specs.declared.Core.{Core}
+use Rattle.rules.specs.declared.Board.{Board}
+use Rattle.rules.specs.declared.Event.{Event}
+use Rattle.rules.specs.declared.Event.the-variants.{PowerUp as powerUp, Write as write, Read as read, Signal as signal}
 use Rattle.rules.specs.Record.{State, values, stored, soundCore, sound}
 use Rattle.rules.specs.Clocks.{Play, Fate, lostToFull, fateNumber}
 use Rattle.rules.specs.Flags.{isFull}
 use Rattle.rules.specs.Play.{play}
 use Rattle.rules.specs.Place.{place}
 use Rattle.rules.specs.Size.{initialises, sizeAfter}
 use Rattle.rules.specs.Interrupt.{conditions, condition, requestHeld, edge, requestAfter}
 use Rattle.rules.specs.Refusals.{refusal}
 use Rattle.rules.specs.Step.{Outcome, refused, played, boardBefore, done, step}
 use Rattle.rules.specs.Laws.Refusals.{Ordinary}
 use Rattle.rules.specs.Laws.Own.{ownNumber}
-use Rattle.rules.specs.Demand3.{NeverLower, same, deeper, larger, PowerUpAccepted, NoQuarter}
+use Rattle.demand3.specs.Demand3.{NeverLower, same, deeper, larger, PowerUpAccepted, NoQuarter}
 use Rattle.rules.proofs.Own.{refusal-own}
 use Rattle.rules.proofs.Sizes.{_⊑_, full-mono}
 use Rattle.rules.proofs.Places.{onList}
 use Rattle.rules.proofs.Steps.{step-done, step-refused, refusal-answered, stored-length, Fit, fit-sound, Kept, kept}
 use Rattle.rules.proofs.Lasting.{up-stands}
 use Rattle.rules.proofs.Soundness.{stands-fit}
-use Rattle.rules.proofs.FullOnly.{play-same}
-use Rattle.rules.proofs.Lower.{OneToRules, one-to-rules}
+use Rattle.demand3.proofs.FullOnly.{play-same}
+use Rattle.demand3.proofs.Lower.{OneToRules, one-to-rules}
 
 -- ---- An event's own refusal, once 3 and 2 are passed, is the core's alone
 

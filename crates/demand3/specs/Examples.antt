@@ -4,11 +4,13 @@ use mathlib.Core.Path.{_≡_}
 use mathlib.Core.Logic.{_≢_}
 use mathlib.Core.List.{List, [], _∷_}
 use lib.ListN.{length, replicate, take}
-use Rattle.rules.specs.Types.{Settings, Event, powerUp}
+use Rattle.rules.specs.declared.Settings.{Settings}
+use Rattle.rules.specs.declared.Event.{Event}
+use Rattle.rules.specs.declared.Event.the-variants.{PowerUp as powerUp}
 use Rattle.rules.specs.Record.{State, activeSize, stored, start}
 use Rattle.rules.specs.Session.{after}
 use Rattle.rules.specs.Bench.{bcr, mask, bor, load, clk}
-use Rattle.rules.specs.Demand3.{AllNeverLower, PowerUpsAccepted, NothingLost, NoQuarters}
+use Rattle.demand3.specs.Demand3.{AllNeverLower, PowerUpsAccepted, NothingLost, NoQuarters}
 
 abbrev pub settings : ℕ → Settings
 settings d = record { fitted = d; range = 0; filter = 0; kit = 2; firmware = 0 }

@@ -5,10 +5,12 @@ use mathlib.Core.Logic.{_≢_, _⊎_, inl, inr}
 use mathlib.Core.Bool.{Bool, true, false, cond}
 use mathlib.Core.List.{List}
 use lib.Dec.{eqb}
-use Rattle.rules.specs.Types.{Core, Event, powerUp, write, read, signal}
+use Rattle.rules.specs.declared.Core.{Core}
+use Rattle.rules.specs.declared.Event.{Event}
+use Rattle.rules.specs.declared.Event.the-variants.{PowerUp as powerUp, Write as write, Read as read, Signal as signal}
 use Rattle.rules.specs.Clocks.{Play, lostToFull, closed}
 use Rattle.rules.specs.Writes.{writeData, onWrite}
 use Rattle.rules.specs.Play.{play}
 
 -- p loses to a full buffer, or is q
 abbrev LosesOr : Play → Play → Type 0

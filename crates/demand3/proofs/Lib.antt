@@ -1,0 +1,6 @@
+-- The proof of demand 3, and of its examples; each file opens with what it shows.
+pub mod FullOnly
+pub mod Lower
+pub mod TwoRuns
+pub mod Demand3
+pub mod Examples

@@ -1,0 +1,80 @@
+use mathlib.Core.Path.{_≡_, sym, _∙_}
+use mathlib.Core.Bool.{Bool, true, false, not}
+use native.Mathlib.Omega.{arith}
+use borrow.Author.Needs.{needs}
+use borrow.Author.Tests.{eq-eqb, ne-eqb, not-true, not-false}
+use Rattle.rules.specs.declared.Board.{Board}
+use Rattle.rules.specs.Record.{sound}
+use Rattle.rules.specs.Refusals.{firstOf}
+use Rattle.rules.specs.Rates.{rateRefusal, rates}
+use Rattle.rules.proofs.Soundness.{sound-exactly}
+use Rattle.record.specs.Promises.{SoundTold}
+use Rattle.rates.proofs.rate.Statement.{statement}
+use Rattle.rates.proofs.rate.Tie as tie
+
+-- what was told of a record's soundness, by the test of it
+unsound : {b : Board} {r : Bool} → SoundTold b r → not r ≡ true → sound b ≡ false
+unsound {b} {r} p h = sym (p .told) ∙ not-true r h
+
+is-so : {b : Board} {r : Bool} → SoundTold b r → not r ≡ false → sound b ≡ true
+is-so {b} {r} p h = sym (p .told) ∙ not-false r h
+
+is-sound-requires : tie.Need-is-sound-requires
+is-sound-requires c κs = search needs
+
+refused-requires : tie.Need-refused-requires
+refused-requires c κs = search needs
+
+returns : tie.Need-returns
+unfolding rates rateRefusal firstOf
+returns c = record { told = c .refused .ensures ∙ rw (unsound (c .before .before .is-sound .ensures) (c .before .if1 .taken)) }
+
+refused-requires-2 : tie.Need-refused-requires-2
+refused-requires-2 c κs = search needs
+
+returns-2 : tie.Need-returns-2
+unfolding rates rateRefusal firstOf
+returns-2 c =
+    let t = c .before .before in
+    record { told = c .refused2 .ensures ∙ rw (is-so (t .before .is-sound .ensures) (t .if1 .left), c .before .if2 .taken) }
+
+refused-requires-3 : tie.Need-refused-requires-3
+refused-requires-3 c κs = search needs
+
+returns-3 : tie.Need-returns-3
+unfolding rates rateRefusal firstOf
+returns-3 c =
+    let u = c .before .before .before .before in
+    record { told = c .refused3 .ensures ∙ rw (is-so (u .before .before .is-sound .ensures) (u .before .if1 .left), u .if2 .left, eq-eqb _ _ (c .before .if3 .taken)) }
+
+whole-reference-requires : tie.Need-whole-reference-requires
+whole-reference-requires c κs =
+    let t = c .before .before .before .before in
+    (sound-exactly _ .0 (is-so (t .before .is-sound .ensures) (t .if1 .left))) .nclk
+
+sample-rate-requires : tie.Need-sample-rate-requires
+sample-rate-requires c κs =
+    let t = c .before .before .before .before .before in
+    ((sound-exactly _ .0 (is-so (t .before .is-sound .ensures) (t .if1 .left))) .nclk, omega (arith, c .before .if3 .left))
+
+returns-4 : tie.Need-returns-4
+unfolding rates rateRefusal firstOf
+returns-4 c =
+    let u = c .before .before .before .before .before in
+    let sure = is-so (u .before .before .is-sound .ensures) (u .before .if1 .left) in
+    record { told = rw (sure, u .if2 .left, ne-eqb _ _ (c .before .before .if3 .left), c .sample-rate .ensures, c .before .whole-reference .ensures) }
+
+pub rate-spec : {M : Type 1} → statement M
+rate-spec =
+    tie.close
+    (tie.spec
+    is-sound-requires
+    refused-requires
+    returns
+    refused-requires-2
+    returns-2
+    refused-requires-3
+    returns-3
+    whole-reference-requires
+    sample-rate-requires
+    returns-4)

@@ -1,0 +1,42 @@
+// The session reader: the lent file bytes and the place of the next record. Each function takes the struct apart and calls the covered
+// one; `read_at` stands above them with plain parameters, and is what a run calls.
+ghost use Rattle.session.specs.Promises.{ItemTold};
+ghost use Rattle.reader.specs.Promises.{Opened};
+use session::Item;
+use session::item_at;
+
+pub struct Reader<'a> {
+    pub bytes: &'a [u8],
+    pub place: usize,
+}
+
+// A reader of these bytes at a place; 0 is the start of the file.
+pub fn open<'a>(bytes: &'a [u8], place: usize) -> Reader<'a>
+    ensures { λ r. ⌜ Opened (bytes .entry) place r ⌝ }
+{
+    Reader { bytes, place }
+}
+
+// The record at the reader's place.
+pub fn item<'a>(r: Reader<'a>) -> Item
+    ensures { λ x. ⌜ ItemTold (now (r .entry .bytes)) (r .entry .place) x ⌝ }
+{
+    item_at(r.bytes, r.place)
+}
+
+// The reader advanced to the place of the next record.
+pub fn advanced<'a>(r: Reader<'a>, next: usize) -> Reader<'a>
+    ensures { λ x. ⌜ Opened (r .entry .bytes) next x ⌝ }
+{
+    Reader {
+        bytes: r.bytes,
+        place: next,
+    }
+}
+
+// The record at a place of these bytes.
+pub fn read_at(s: &[u8], at: usize) -> Item
+    ensures { λ x. ⌜ ItemTold (now (s .entry)) at x ⌝ }
+{
+    item(open(s, at))
+}

@@ -1,0 +1,4 @@
+pub mod File
+pub mod Promises
+pub mod Unique
+pub mod Laws

@@ -1,0 +1,9 @@
+-- Any two outcomes that the promise allows are equal.
+use Prim.Native.Nat.{ℕ}
+use mathlib.Core.Path.{_≡_}
+use mathlib.Core.List.{List}
+use Rattle.session.specs.declared.Item.{Item}
+use Rattle.session.specs.Promises.{ItemTold}
+
+abbrev pub Item-unique : Type 0
+Item-unique = (s : List ℕ) (at : ℕ) (r r′ : Item) → ItemTold s at r → ItemTold s at r′ → r ≡ r′
