@@ -2,4 +2,5 @@
 pub mod Lengths
 pub mod Given
 pub mod Sessions
+pub mod Rests
 pub mod Unique

@@ -1,0 +1,28 @@
+-- Pieces written one after the other are one piece, and a piece keeps the length of the output.
+use Prim.Native.Nat.{ℕ, suc, _+_, _≤_}
+use mathlib.Core.Path.{_≡_, ap, _∙_}
+use mathlib.Core.List.{List, [], _∷_, _++_}
+use native.Mathlib.Nat.{add-zero, add-suc, suc-add}
+use native.Mathlib.Omega.{arith}
+use lib.ListN.{length, set, length-append}
+use lib.Seq.{sets, length-sets}
+use Rattle.listing.specs.Pieces.{Put}
+
+sets-append : (l : List ℕ) (i : ℕ) (xs ys : List ℕ) → sets (sets l i xs) (i + length xs) ys ≡ sets l i (xs ++ ys)
+sets-append l i [] ys = rw add-zero
+sets-append l i (x ∷ xs) ys = rw (add-suc, ← suc-add) (sets-append (set l i x) (suc i) xs ys)
+
+-- a piece, and then another
+pub then : {o o1 o2 xs ys : List ℕ} {at p q : ℕ} → Put o at xs o1 p → Put o1 p ys o2 q → Put o at (xs ++ ys) o2 q
+then {o} {o1} {o2} {xs} {ys} {at} {p} {q} a b =
+    record {
+      place = omega (arith, length-append xs ys);
+      text = b .text ∙ (λ i. sets (a .text i) (a .place i) ys) ∙ sets-append o at xs ys;
+    }
+
+pub put-length : {o o1 xs : List ℕ} {at p : ℕ} → Put o at xs o1 p → length o1 ≡ length o
+put-length {o} {o1} {xs} {at} a = ap length (a .text) ∙ length-sets o at xs
+
+-- the room that is left after a piece of at most n bytes
+pub room : {o o1 xs : List ℕ} {at p : ℕ} (n k : ℕ) → at + (n + k) ≤ length o → Put o at xs o1 p → length xs ≤ n → p + k ≤ length o1
+room n k h a l = omega (arith, put-length a)

@@ -1,0 +1,58 @@
+-- `listing::lines::put_file_line` meets its contract: its pieces are the line, and after each there is room for the rest.
+use Prim.Native.Nat.{_+_, _≤_}
+use native.Mathlib.Omega.{arith}
+use lib.ListN.{length}
+use borrow.Author.Needs.{needs}
+use Rattle.listing.specs.Text.{fileLine}
+use Rattle.listing.proofs.Puts.{then, put-length, room}
+use Rattle.listing.proofs.Numbers.{decimal-long, field-long}
+use Rattle.listing.proofs.lines.put_file_line.Statement.{statement}
+use Rattle.listing.proofs.lines.put_file_line.Tie as tie
+
+after-text : (c : tie.After-put-text) → c .put-text .result + 22 ≤ length (c .put-text .last .0)
+after-text c = room 5 22 (c .before .before .before .before .pre) (c .put-text .ensures) (omega arith)
+
+after-decimal : (c : tie.After-put-decimal) → c .put-decimal .result + 12 ≤ length (c .put-decimal .last .0)
+after-decimal c = room 10 12 (after-text (c .before .before .before .before)) (c .put-decimal .ensures) (decimal-long 9 _)
+
+after-field : (c : tie.After-put-field) → c .put-field .result + 1 ≤ length (c .put-field .last .0)
+after-field c = room 11 1 (after-decimal (c .before .before .before .before)) (c .put-field .ensures) (field-long _)
+
+slice-aggregate-put-text : tie.Need-slice-aggregate-put-text
+slice-aggregate-put-text c = search needs
+
+put-text-requires : tie.Need-put-text-requires
+put-text-requires c κs = search needs
+
+put-decimal-requires : tie.Need-put-decimal-requires
+put-decimal-requires c κs = search needs
+
+put-field-requires : tie.Need-put-field-requires
+put-field-requires c κs = omega (arith, after-decimal (c .before .before .before))
+
+put-byte-requires : tie.Need-put-byte-requires
+put-byte-requires c κs = omega (arith, after-field (c .before .before .before))
+
+returns : tie.Need-returns
+unfolding fileLine
+returns c =
+    let byte = c .before .before in
+    let field = byte .before .before .before .before in
+    let decimal = field .before .before .before .before in
+    let text = decimal .before .before .before .before in
+    then (then (then (text .put-text .ensures) (decimal .put-decimal .ensures)) (field .put-field .ensures)) (byte .put-byte .ensures)
+
+same-length : tie.Need-same-length
+same-length c = put-length (returns c)
+
+pub put-file-line-spec : {M : Type 1} → statement M
+put-file-line-spec =
+    tie.close
+    (tie.spec
+    slice-aggregate-put-text
+    put-text-requires
+    put-decimal-requires
+    put-field-requires
+    put-byte-requires
+    same-length
+    returns)

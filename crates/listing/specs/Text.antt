@@ -1,0 +1,83 @@
+-- The listing's text, byte by byte (01, "Session file and listing").
+--   decimal n        a number below 2^32 in decimal, without leading zeros
+--   hex k n          the last k hexadecimal digits of n, in capitals
+--   line k a count   the line of the record number k, which answered a and left count values
+--   levelsLine ls    the last line: the levels in four digits, channel 00 first
+--   fileLine n p     the line of a file refusal
+use Prim.Native.Nat.{ℕ, zero, suc, _+_, _/_, _%_}
+use mathlib.Core.Bool.{cond}
+use mathlib.Core.List.{List, [], _∷_, _++_}
+use lib.Dec.{ltb}
+use Rattle.rules.specs.declared.Answer.{Answer}
+
+-- ---- Numbers
+
+-- "0" to "9"
+abbrev pub digit : ℕ → ℕ
+digit d = 48 + d
+
+-- "0" to "9", "A" to "F"
+abbrev pub capital : ℕ → ℕ
+capital d = cond (ltb d 10) (48 + d) (55 + d)
+
+-- of at most f + 1 digits
+unfoldable pub decimalIn : ℕ → ℕ → List ℕ
+decimalIn zero n = digit n ∷ []
+decimalIn (suc f) n = cond (ltb n 10) (digit n ∷ []) (decimalIn f (n / 10) ++ digit (n % 10) ∷ [])
+
+-- a number below 2^32 has at most ten digits
+abbrev pub decimal : ℕ → List ℕ
+decimal n = decimalIn 9 n
+
+unfoldable pub hex : ℕ → ℕ → List ℕ
+hex zero n = []
+hex (suc k) n = hex k (n / 16) ++ capital (n % 16) ∷ []
+
+-- ---- Fixed texts
+
+abbrev pub space : ℕ
+space = 32
+
+abbrev pub newline : ℕ
+newline = 10
+
+-- "REHEARSAL 1" and a newline
+abbrev pub heading : List ℕ
+heading = 82 ∷ 69 ∷ 72 ∷ 69 ∷ 65 ∷ 82 ∷ 83 ∷ 65 ∷ 76 ∷ 32 ∷ 49 ∷ 10 ∷ []
+
+-- "FILE "
+abbrev pub fileHead : List ℕ
+fileHead = 70 ∷ 73 ∷ 76 ∷ 69 ∷ 32 ∷ []
+
+-- "LEVELS"
+abbrev pub levelsHead : List ℕ
+levelsHead = 76 ∷ 69 ∷ 86 ∷ 69 ∷ 76 ∷ 83 ∷ []
+
+-- "TOO LONG" and a newline
+abbrev pub tooLong : List ℕ
+tooLong = 84 ∷ 79 ∷ 79 ∷ 32 ∷ 76 ∷ 79 ∷ 78 ∷ 71 ∷ 10 ∷ []
+
+-- ---- Lines
+
+-- 01: "record number, the four answers, count after; the register value in eight hex digits, the others decimal"
+unfoldable pub line : ℕ → Answer → ℕ → List ℕ
+line k a count =
+    decimal k
+    ++ space ∷ decimal (a .refusal)
+    ++ space ∷ hex 8 (a .register)
+    ++ space ∷ decimal (a .moved)
+    ++ space ∷ decimal (a .fate)
+    ++ space ∷ decimal count
+    ++ newline ∷ []
+
+-- 01: "levels in four, channel 00 first"
+unfoldable pub levelsIn : List ℕ → List ℕ
+levelsIn [] = newline ∷ []
+levelsIn (x ∷ xs) = space ∷ hex 4 x ++ levelsIn xs
+
+unfoldable pub levelsLine : List ℕ → List ℕ
+levelsLine levels = levelsHead ++ levelsIn levels
+
+-- 01: "A file refusal prints `FILE n p`"
+unfoldable pub fileLine : ℕ → ℕ → List ℕ
+fileLine n p = fileHead ++ decimal n ++ space ∷ decimal p ++ newline ∷ []

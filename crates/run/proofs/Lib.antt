@@ -1,0 +1,4 @@
+-- What the functions' proofs cite; each file opens with what it shows.
+pub mod Turns
+pub mod Leaving
+pub mod Unique

@@ -1,0 +1,75 @@
+// A run over a session file. `advance` is one record of it, and stands under every loop over a session; `run` is that loop.
+ghost use Rattle.run.specs.Promises.{Advances, Runs};
+use board::step;
+use reader::read_at;
+use record::unpowered;
+use rules::Answer;
+use rules::Board;
+use session::End;
+use session::Item;
+
+// How far a session has been read.
+pub struct Cursor {
+    pub place: usize,
+}
+
+// One record: the event's answer and the cursor after it; or how the file ends.
+pub enum Progress {
+    Played(Answer, Cursor),
+    Ended(End),
+}
+
+pub struct Advanced {
+    pub progress: Progress,
+    pub board: Board,
+}
+
+// The board that a session leaves, and how the file ends.
+pub struct Ran {
+    pub end: End,
+    pub board: Board,
+}
+
+// The record at the cursor, played on a board and its sample memory. Where the file ends the board comes back as it was given.
+pub fn advance(s: &[u8], c: Cursor, b: Board, memory: &mut [u32]) -> Advanced
+    ensures { λ r. ⌜ Advances (now (s .entry)) c b (now (memory .entry)) r (now (memory .exit)) ⌝ }
+{
+    let item = read_at(s, c.place);
+    match item {
+        Item::Got(e, next) => {
+            let r = step(b, memory, e);
+            let answer = r.answer;
+            let after = r.board;
+            Advanced {
+                progress: Progress::Played(answer, Cursor { place: next }),
+                board: after,
+            }
+        }
+        Item::Over(x) => Advanced {
+            progress: Progress::Ended(x),
+            board: b,
+        },
+    }
+}
+
+// 01: "A run starts unpowered and goes on past refused events and lost values. A file refusal stops it, and record and memory stay as
+// the earlier records left them."
+pub fn run(s: &[u8], memory: &mut [u32]) -> Ran
+    ensures { λ r. ⌜ Runs (now (s .entry)) (now (memory .entry)) r (now (memory .exit)) ⌝ }
+{
+    let mut b = unpowered();
+    let mut c = Cursor { place: 0 };
+    loop {
+        let a = advance(s, c, b, memory);
+        b = a.board;
+        let p = a.progress;
+        match p {
+            Progress::Played(_, next) => {
+                c = next;
+            }
+            Progress::Ended(x) => {
+                return Ran { end: x, board: b };
+            }
+        }
+    }
+}
