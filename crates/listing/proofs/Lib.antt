@@ -1,3 +1,8 @@
+-- The laws of specs/Laws, and what the functions' proofs cite; each file opens with what it shows.
 pub mod Puts
 pub mod Numbers
 pub mod Lengths
+pub mod Body
+pub mod Writing
+pub mod Answers
+pub mod Unique

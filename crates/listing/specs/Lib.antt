@@ -1,3 +1,6 @@
 pub mod Text
 pub mod Pieces
+pub mod Listing
+pub mod Promises
+pub mod Unique
 pub mod Laws

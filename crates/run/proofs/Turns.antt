@@ -48,12 +48,14 @@ module _ (s : List ℕ) (c : Cursor) (st : State) where
   was-played a next = go (itemAt s (c .place)) refl
     where
       go : (i : Item) → itemAt s (c .place) ≡ i → (onItem st i) .progress ≡ Played a next → (e : Event) × Event-played s c st a next e
-      go (Got e n) h p =
-          (e, record {
-            stood = h ∙ ap (Got e) (ap placeIn p);
-            answer = sym (ap (answerIn a) p);
-            state = ap (λ (i : Item). (onItem st i) .state) h;
-          })
+      go (Got e n) h p = (
+        e,
+        record {
+          stood = h ∙ ap (Got e) (ap placeIn p);
+          answer = sym (ap (answerIn a) p);
+          state = ap (λ (i : Item). (onItem st i) .state) h;
+        },
+      )
       go (Over x) h p = absurd (false≢true (ap isPlayed p))
 
   -- the file ends at the cursor, and nothing changed

@@ -38,11 +38,12 @@ module _ (s : List ℕ) (at : ℕ) (x : Session) (r : Rest s at x) where
       → (y : Session) × Rest s next y × (x .events ≡ e ∷ y .events) × (x .end ≡ y .end)
   rest-got e next h =
       let m = looked (Got e next) h in
-      let g = item-grows s at e next h in
-      (from (m .0) s next,
-      record { within = g .1; fuel = m .0; enough = omega (arith, g .0, m .1, r .enough); is = refl },
-      ap (λ (z : Session). z .events) (m .2),
-      ap (λ (z : Session). z .end) (m .2))
+      let g = item-grows s at e next h in (
+        from (m .0) s next,
+        record { within = g .1; fuel = m .0; enough = omega (arith, g .0, m .1, r .enough); is = refl },
+        ap (λ (z : Session). z .events) (m .2),
+        ap (λ (z : Session). z .end) (m .2),
+      )
 
   pub rest-over : (y : End) → itemAt s at ≡ Over y → (x .events ≡ []) × (x .end ≡ y)
   rest-over y h =

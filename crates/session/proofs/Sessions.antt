@@ -1,7 +1,8 @@
--- A file that ends in a refusal is refused so at that place.
-use Prim.Native.Nat.{ℕ, zero, suc}
+-- A file that ends in a refusal is refused so at that place; and the place of a refusal is in the file.
+use Prim.Native.Nat.{ℕ, zero, suc, _≤_}
 use mathlib.Core.Path.{_≡_, subst}
 use mathlib.Core.List.{List}
+use native.Mathlib.Omega.{arith}
 use lib.ListN.{length}
 use Rattle.session.specs.declared.End.{End}
 use Rattle.session.specs.declared.End.the-variants.{File, Refused}
@@ -44,3 +45,24 @@ ends-there (suc f) s at = go (ends-there f s) (itemAt s at) (stands-there s at _
 pub session-refused : Session-refused
 unfolding session
 session-refused s why p h = subst (λ (x : End). There s (Over x)) h (ends-there (suc (length s)) s 0)
+
+-- ---- The place is in the file
+
+abbrev pub Within : List ℕ → Item → Type 0
+Within s (Got e next) = Unit {0}
+Within s (Over File) = Unit {0}
+Within s (Over (Refused why p)) = p ≤ length s
+
+record-within : (s : List ℕ) (at : ℕ) (i : Item) → Record s at i → Within s i
+record-within s at i (ended h) = tt
+record-within s at i (halfLength h k) = omega arith
+record-within s at i (shortBody h k) = omega arith
+record-within s at i (lengthZero w z) = omega arith
+record-within s at i (unknown w z u) = omega arith
+record-within s at i (lengthWrong n w z k e) = omega arith
+record-within s at i (event w k) = tt
+
+pub stands-within : (s : List ℕ) (at : ℕ) (i : Item) → Stands s at i → Within s i
+stands-within s at i (badVersion h) = omega arith
+stands-within s at i (first h j r) = record-within s 1 j r
+stands-within s at i (later k j r) = record-within s (suc k) j r

@@ -1,0 +1,13 @@
+-- Any two outcomes that the promise allows are equal.
+use Prim.Native.Nat.{ℕ}
+use mathlib.Core.Path.{_≡_}
+use mathlib.Core.List.{List}
+use Rattle.listing.specs.declared.Listed.{Listed}
+use Rattle.listing.specs.Promises.{Lists}
+
+abbrev pub Lists-unique : Type 0
+Lists-unique =
+    (s m out : List ℕ) (r r′ : Listed) (n n′ o o′ : List ℕ)
+    → Lists s m out r n o
+    → Lists s m out r′ n′ o′
+    → (r ≡ r′) × (n ≡ n′) × (o ≡ o′)
