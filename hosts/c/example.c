@@ -1,4 +1,4 @@
-/* Two samples to two channels, the second with the end-of-frame mark, and a write that the board refuses. */
+/* Two samples to two channels, the second with the end-of-frame mark, and a write that the board refuses; then the rate. */
 #include "nergutsai.h"
 
 #include <inttypes.h>
@@ -36,6 +36,14 @@ int main(void)
             session[i].what, answer[NERGUTSAI_REFUSAL], answer[NERGUTSAI_REGISTER], answer[NERGUTSAI_MOVED],
             answer[NERGUTSAI_FATE]);
     }
+    uint32_t figures[NERGUTSAI_FIGURES];
+    uint32_t status = nergutsai_rate(record, NERGUTSAI_RECORD, figures, NERGUTSAI_FIGURES);
+    if (status != 0) {
+        fprintf(stderr, "rate: not understood (%" PRIu32 ")\n", status);
+        return 1;
+    }
+    printf("%-36s refusal %" PRIu32 "  reference %" PRIu32 " Hz  rate %" PRIu32 " Hz\n", "ask the rate",
+        figures[NERGUTSAI_RATE_REFUSAL], figures[NERGUTSAI_REFERENCE], figures[NERGUTSAI_RATE]);
     for (int channel = 0; channel < 6; channel++)
         printf("channel %d: %04" PRIX32 "\n", channel, record[NERGUTSAI_LEVELS + channel]);
     return 0;

@@ -1,4 +1,5 @@
-/* The proved board model for hosts in C: one event on a board record, its sample memory and an event, all as numbers.
+/* The proved board model for hosts in C: one event on a board record, its sample memory and an event, all as numbers;
+ * and the rate question of a board record.
  * Link with libbridge.a (`rt staticlib bridge`), which is for Linux on x86-64. */
 #ifndef NERGUTSAI_H
 #define NERGUTSAI_H
@@ -10,8 +11,8 @@
 extern "C" {
 #endif
 
-/* The lengths of a record, an event and an answer. */
-enum { NERGUTSAI_RECORD = 55, NERGUTSAI_EVENT = 6, NERGUTSAI_ANSWER = 4 };
+/* The lengths of a record, an event, an answer and the figures of a rate question. */
+enum { NERGUTSAI_RECORD = 55, NERGUTSAI_EVENT = 6, NERGUTSAI_ANSWER = 4, NERGUTSAI_FIGURES = 3 };
 
 /* The numbers of a record. A flag is 0 or 1; read back in, any number but 0 is 1. A level is 16 bits.
  * All zero is the board before its first power-up. */
@@ -45,6 +46,9 @@ enum {
 /* The numbers of an answer. */
 enum { NERGUTSAI_REFUSAL, NERGUTSAI_REGISTER, NERGUTSAI_MOVED, NERGUTSAI_FATE };
 
+/* The figures of a rate question: its refusal number, the reference in whole hertz, the sample rate in whole hertz. */
+enum { NERGUTSAI_RATE_REFUSAL, NERGUTSAI_REFERENCE, NERGUTSAI_RATE };
+
 /* One event. Returns
  *   0  understood: the answer is written. If its refusal number is 0 the record and the memory are those after the event;
  *      else both are as they were.
@@ -56,6 +60,16 @@ uint32_t nergutsai_event(
     uint32_t *memory, size_t memory_length,
     const uint32_t *event, size_t event_length,
     uint32_t *answer, size_t answer_length);
+
+/* The rate question. Returns
+ *   0  understood: the figures are written. If their refusal number is 0 they are those of the record's clock; else it is
+ *      3 a damaged record, 9 EXTERNAL CLOCK is set or 8 the divisor is 0, and the other two are 0.
+ *   1  the record, 3 the figures are of another length. Nothing was written.
+ * The record is only read. The two pointers must be aligned and not NULL, for as many numbers as their lengths say, and may
+ * not overlap. */
+uint32_t nergutsai_rate(
+    const uint32_t *record, size_t record_length,
+    uint32_t *figures, size_t figures_length);
 
 #ifdef __cplusplus
 }

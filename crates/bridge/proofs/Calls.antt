@@ -21,6 +21,10 @@ pub row-written : (b : Board) (row : List ℕ) → length row ≡ 55 → written
 unfolding written
 row-written b row long = rw (eq-eqb _ _ long)
 
+pub read-whole : (row : List ℕ) (b : Board) → length row ≡ 55 → Told row b → b ≡ boardAt row
+unfolding toldOf
+read-whole row b long told = told .told ∙ rw (eq-eqb _ _ long)
+
 pub not-understood : (r m e a : List ℕ) (n : ℕ) → n ≡ status (length r) e (length a) → (n ≡ 0 → ⊥)
     → Called r m e a n r m a
 unfolding left
@@ -39,9 +43,8 @@ module _ (r m e a r′ m′ a′ : List ℕ) (b : Board) (ev : Event) (y : Reply
       status (length r) e (length a) ≡ 0 → length r ≡ 55 → Told r b → ev ≡ eventAt e → Stepped b m ev y m′
       → a′ ≡ answerRow (y .answer) → r′ ≡ cond (eqb (y .answer .refusal) 0) (rowOf (y .board)) r
       → Called r m e a 0 r′ m′ a′
-  unfolding toldOf
   understood z long told ee s pa pr =
-      let bb : b ≡ boardAt r = told .told ∙ rw (eq-eqb _ _ long) in
+      let bb = read-whole r b long told in
       let o = understood-left r m e a z in
       let w : step (record { board = b; memory = m }) ev ≡ step (record { board = boardAt r; memory = m }) (eventAt e) =
       λ i. step (record { board = bb i; memory = m }) (ee i) in

@@ -1,4 +1,5 @@
 -- A call: a record as a row of 55 numbers, the sample memory, an event as a row of 6, and room for an answer of 4.
+-- A rate question: a record as a row of 55 numbers, and room for 3 figures.
 use Prim.Native.Nat.{ℕ}
 use mathlib.Core.Path.{_≡_}
 use mathlib.Core.Bool.{_||_, not, cond}
@@ -6,8 +7,9 @@ use mathlib.Core.List.{List, [], _∷_}
 use lib.Dec.{eqb, ltb}
 use lib.ListN.{length}
 use Rattle.rules.specs.Step.{Outcome, step}
+use Rattle.rules.specs.Rates.{rates}
 use Rattle.layout.specs.Layout.{at, boardAt, rowOf}
-use Rattle.bridge.specs.Types.{Answer}
+use Rattle.bridge.specs.Types.{Answer, Figures}
 use Rattle.bridge.specs.Events.{eventAt}
 
 -- the lengths of a call that is looked at
@@ -49,3 +51,17 @@ left row memory e answer =
     cond (eqb (status (length row) e (length answer)) 0)
     (leftBy row (step (record { board = boardAt row; memory = memory }) (eventAt e)))
     (record { row = row; memory = memory; answer = answer })
+
+-- ---- The rate question
+
+-- why a rate question is not understood, by the numbers that `status` has for it: 1 the record, 3 the room for the figures is
+-- of another length; 0 it is understood, whatever the record is
+unfoldable pub rateStatus : ℕ → ℕ → ℕ
+rateStatus row figures = cond (not (eqb row 55)) 1 (cond (not (eqb figures 3)) 3 0)
+
+abbrev pub figuresRow : Figures → List ℕ
+figuresRow f = f .refusal ∷ f .reference ∷ f .rate ∷ []
+
+-- a rate question that is not understood leaves the room as it was
+unfoldable pub figuresLeft : List ℕ → List ℕ → List ℕ
+figuresLeft row figures = cond (eqb (rateStatus (length row) (length figures)) 0) (figuresRow (rates (boardAt row))) figures

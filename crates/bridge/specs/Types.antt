@@ -5,4 +5,5 @@ pub use Rattle.rules.specs.declared.Signal.the-variants.{Passed as passed, Fail
 pub use Rattle.rules.specs.declared.Event.{Event}
 pub use Rattle.rules.specs.declared.Event.the-variants.{PowerUp as powerUp, Write as write, Read as read, Signal as signal}
 pub use Rattle.rules.specs.declared.Answer.{Answer}
+pub use Rattle.rules.specs.declared.Figures.{Figures}
 pub use Rattle.rules.specs.declared.Board.{Board}

@@ -1,4 +1,5 @@
-// One event on rows of numbers, for hosts in Rust and C. A slice is a pointer and then a length on their side (hosts/).
+// One event, and the rate question, on rows of numbers, for hosts in Rust and C.
+// A slice is a pointer and then a length on their side (hosts/).
 ghost use mathlib.Core.Path.{_≡_};
 ghost use mathlib.Core.Bool.{cond};
 ghost use lib.Dec.{eqb};
@@ -6,15 +7,19 @@ ghost use lib.ListN.{length};
 ghost use Rattle.layout.specs.Layout.{rowOf};
 ghost use Rattle.bridge.specs.Events.{signalOf, eventAt};
 ghost use Rattle.bridge.specs.Calls.{Fits, status, answerRow};
-ghost use Rattle.bridge.specs.Promises.{Called};
+ghost use Rattle.bridge.specs.Promises.{Called, RateCalled};
+use crate::figures::put_figures;
 use board::step;
 use layout::board_at;
+use rates::rate;
 use rows::put_board;
 use rules::Answer;
 use rules::Board;
 use rules::Event;
 use rules::Settings;
 use rules::Signal;
+
+mod figures;
 
 // Which of the reasons not to look at a call comes first, 0 if none does.
 fn status_of(row: usize, event: &[u32], answer: usize) -> u32
@@ -121,5 +126,21 @@ pub extern "C" fn nergutsai_event(
     let after = reply.board;
     put_answer(given, answer);
     put_record(given.refusal, after, row);
+    0
+}
+
+// The rate question, which asks a record alone and leaves it as it is. Answers 0 where it was understood, be the figures given or
+// refused; else why it was not (specs/Calls.antt).
+#[no_mangle]
+pub extern "C" fn nergutsai_rate(row: &[u32], figures: &mut [u32]) -> u32
+    ensures { λ r. ⌜ RateCalled (now (row .entry)) (now (figures .entry)) r (now (figures .exit)) ⌝ }
+{
+    if row.len() != 55 {
+        return 1;
+    }
+    if figures.len() != 3 {
+        return 3;
+    }
+    put_figures(rate(board_at(row)), figures);
     0
 }

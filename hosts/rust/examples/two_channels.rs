@@ -1,6 +1,6 @@
-//! Two samples to two channels, the second with the end-of-frame mark, and a write that the board refuses.
+//! Two samples to two channels, the second with the end-of-frame mark, and a write that the board refuses; then the rate.
 
-use nergutsai::{event, Event, Record};
+use nergutsai::{event, rate, Event, Record};
 
 fn main() {
     let write = |offset, value| Event::Write { offset, value };
@@ -33,6 +33,11 @@ fn main() {
             answer.refusal, answer.register, answer.moved, answer.fate
         );
     }
+    let figures = rate(&board);
+    println!(
+        "{:<36} refusal {}  reference {} Hz  rate {} Hz",
+        "ask the rate", figures.refusal, figures.reference, figures.rate
+    );
     for (channel, level) in board.levels()[..6].iter().enumerate() {
         println!("channel {channel}: {level:04X}");
     }

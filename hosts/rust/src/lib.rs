@@ -1,4 +1,5 @@
-//! The proved model of the PC104P-16AO20 for hosts in Rust: a safe wrapper of `nergutsai_event`.
+//! The proved model of the PC104P-16AO20 for hosts in Rust: a safe wrapper of `nergutsai_event` and
+//! `nergutsai_rate`.
 //!
 //! The archive libbridge.a is for Linux on x86-64.
 
@@ -96,6 +97,17 @@ pub struct Answer {
     pub fate: u32,
 }
 
+/// What a rate question answers.
+#[derive(Clone, Copy, Debug, PartialEq, Eq)]
+pub struct Figures {
+    /// 0 answered; 3 a damaged record, 9 EXTERNAL CLOCK is set, 8 the divisor is 0: then the other two are 0.
+    pub refusal: u32,
+    /// The reference frequency, in whole hertz.
+    pub reference: u32,
+    /// The sample rate, in whole hertz.
+    pub rate: u32,
+}
+
 extern "C" {
     fn nergutsai_event(
         record: *mut u32,
@@ -106,6 +118,13 @@ extern "C" {
         event_length: usize,
         answer: *mut u32,
         answer_length: usize,
+    ) -> u32;
+
+    fn nergutsai_rate(
+        record: *const u32,
+        record_length: usize,
+        figures: *mut u32,
+        figures_length: usize,
     ) -> u32;
 }
 
@@ -141,5 +160,26 @@ pub fn event(record: &mut Record, memory: &mut [u32], event: Event) -> Answer {
         register,
         moved,
         fate,
+    }
+}
+
+/// The rate question.
+pub fn rate(record: &Record) -> Figures {
+    let mut figures = [0; 3];
+    // Two arrays, valid and apart from each other, which is all that the function asks.
+    let status = unsafe {
+        nergutsai_rate(
+            record.0.as_ptr(),
+            record.0.len(),
+            figures.as_mut_ptr(),
+            figures.len(),
+        )
+    };
+    assert_eq!(status, 0, "the lengths are right by their types");
+    let [refusal, reference, rate] = figures;
+    Figures {
+        refusal,
+        reference,
+        rate,
     }
 }
