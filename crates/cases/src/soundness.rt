@@ -16,6 +16,9 @@ fn numbers(b: Board) {
     x.core.options.filter = 3;
     reads(b"filter 3", x);
     x = b;
+    x.core.options.kit = 3;
+    reads(b"kit 3", x);
+    x = b;
     x.core.options.firmware = 4096;
     reads(b"firmware 4096", x);
     x = b;
