@@ -1,18 +1,14 @@
 -- An event as a row of six numbers: its kind, and up to five more.
 --   1 power-up: fitted, range, filter, kit, firmware    2 write: offset, value    3 read: offset
 --   4 rate-generator clock   5 outside clock   6 trigger   7 calibration passed   8 calibration failed   9 settled
+-- The kinds are those of a session file.
 use Prim.Native.Nat.{ℕ}
 use mathlib.Core.Bool.{cond}
 use mathlib.Core.List.{List}
 use lib.Dec.{eqb}
+use Rattle.session.specs.File.{signalOf}
 use Rattle.layout.specs.Layout.{at}
-use Rattle.bridge.specs.Types.{Event, powerUp, write, read, signal, Signal, tick, outside, trigger, passed, failed, settled}
-
-unfoldable pub signalOf : ℕ → Signal
-signalOf kind =
-    cond (eqb kind 4) tick
-    (cond (eqb kind 5) outside
-    (cond (eqb kind 6) trigger (cond (eqb kind 7) passed (cond (eqb kind 8) failed settled))))
+use Rattle.bridge.specs.Types.{Event, powerUp, write, read, signal}
 
 unfoldable pub eventAt : List ℕ → Event
 eventAt e =

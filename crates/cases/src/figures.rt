@@ -1,20 +1,21 @@
 // The rate question: "Nclk 0 and 511 give 16000000 and 32000000"; the refusals 3, 9 and 8.
+use crate::board::powered;
+use crate::board::written;
 use crate::print;
-use crate::refusals::powered;
-use crate::refusals::written;
-use rules::Board;
+use bridge::nergutsai_rate;
 
-fn asked(text: &[u8], b: Board) {
-    let f = rates::rate(b);
+fn asked(text: &[u8], row: [u32; 55]) {
+    let mut figures = [99u32; 3];
+    nergutsai_rate(&row, &mut figures);
     print::name(text);
-    print::field(f.refusal);
-    print::field(f.reference);
-    print::field(f.rate);
+    print::field(figures[0]);
+    print::field(figures[1]);
+    print::field(figures[2]);
     print::end();
 }
 
 // ALT set, and this Nclk.
-fn adjusted(nclk: u32) -> Board {
+fn adjusted(nclk: u32) -> [u32; 55] {
     written(powered(), 28, 512 + nclk % 512)
 }
 
@@ -27,5 +28,5 @@ pub(crate) fn all() {
     asked(b"rate at divisor 0", written(powered(), 8, 0));
     asked(b"rate with external clock", written(powered(), 12, 16));
     asked(b"rate with both", written(written(powered(), 8, 0), 12, 16));
-    asked(b"rate unpowered", record::unpowered());
+    asked(b"rate unpowered", [0; 55]);
 }

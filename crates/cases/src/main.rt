@@ -1,4 +1,6 @@
-// 01's cases that are run and compared, and more: what each prints is held to the file `stdout`.
+// 01's cases that are run and compared, and more: what each prints is held to the file `stdout`. Boards are rows of 55 numbers, as
+// hosts have them: so a record can be handed in with any one number broken.
+mod board;
 mod figures;
 mod files;
 mod print;

@@ -1,51 +1,40 @@
 // Where the values stand after the ring has wrapped around, and that the entries above the depth are as they were.
+use crate::board::powered;
+use crate::board::refusal;
+use crate::board::written;
 use crate::print;
-use crate::refusals::powered;
-use crate::refusals::written;
-use rules::Board;
-use rules::Event;
-use rules::Signal;
 
-fn load(b: Board, v: u32, memory: &mut [u32]) -> Board {
-    let r = board::step(
-        b,
-        memory,
-        Event::Write {
-            offset: 24,
-            value: v,
-        },
-    );
-    r.board
+fn load(row: &mut [u32], memory: &mut [u32], v: u32) {
+    refusal(row, memory, [2, 24, v, 0, 0, 0]);
 }
 
-fn tick(b: Board, memory: &mut [u32]) -> Board {
-    let r = board::step(b, memory, Event::Signal(Signal::Tick));
-    r.board
+fn tick(row: &mut [u32], memory: &mut [u32]) {
+    refusal(row, memory, [4, 0, 0, 0, 0, 0]);
 }
 
-fn load_two(b: Board, v: u32, memory: &mut [u32]) -> Board {
+fn load_two(row: &mut [u32], memory: &mut [u32], v: u32) {
     let low = v % 1000000;
-    let x = load(b, low, memory);
-    load(x, low + 1, memory)
+    load(row, memory, low);
+    load(row, memory, low + 1);
 }
 
 // Five values, one after another.
-fn load_five(b: Board, v: u32, memory: &mut [u32]) -> Board {
+fn load_five(row: &mut [u32], memory: &mut [u32], v: u32) {
     let low = v % 1000000;
-    let x = load_two(b, low, memory);
-    let y = load_two(x, low + 2, memory);
-    load(y, low + 4, memory)
+    load_two(row, memory, low);
+    load_two(row, memory, low + 2);
+    load(row, memory, low + 4);
 }
 
-fn tick_two(b: Board, memory: &mut [u32]) -> Board {
-    let x = tick(b, memory);
-    tick(x, memory)
+fn tick_two(row: &mut [u32], memory: &mut [u32]) {
+    tick(row, memory);
+    tick(row, memory);
 }
 
-fn tick_five(b: Board, memory: &mut [u32]) -> Board {
-    let x = tick_two(b, memory);
-    let y = tick_two(x, memory);
-    tick(y, memory)
+fn tick_five(row: &mut [u32], memory: &mut [u32]) {
+    tick_two(row, memory);
+    tick_two(row, memory);
+    tick(row, memory);
 }
 
 fn entries(memory: [u32; 10]) {
@@ -61,10 +50,11 @@ fn entries(memory: [u32; 10]) {
     print::field(memory[9]);
 }
 
-fn shown(text: &[u8], b: Board, memory: [u32; 10]) {
+// First, count, and the sample memory.
+fn shown(text: &[u8], row: [u32; 55], memory: [u32; 10]) {
     print::name(text);
-    print::field(b.ring.first);
-    print::field(b.ring.count);
+    print::field(row[33]);
+    print::field(row[34]);
     entries(memory);
     print::end();
 }
@@ -73,15 +63,15 @@ fn shown(text: &[u8], b: Board, memory: [u32; 10]) {
 // stored: 131072 is bit 17.
 pub(crate) fn all() {
     let mut memory = [7000000u32; 10];
-    let new = written(written(powered(), 4, 1), 12, 47);
-    let five = load_five(new, 131072 + 100, &mut memory);
-    let six = load(five, 131072 + 105, &mut memory);
-    shown(b"six loaded", six, memory);
-    let one = tick_five(six, &mut memory);
-    shown(b"five played", one, memory);
-    let again = load_five(one, 131072 + 106, &mut memory);
-    shown(b"five more loaded", again, memory);
-    let next = tick(again, &mut memory);
-    shown(b"one more played", next, memory);
-    shown(b"emptied", written(next, 12, 2048 + 47), memory);
+    let mut row = written(written(powered(), 4, 1), 12, 47);
+    load_five(&mut row, &mut memory, 131072 + 100);
+    load(&mut row, &mut memory, 131072 + 105);
+    shown(b"six loaded", row, memory);
+    tick_five(&mut row, &mut memory);
+    shown(b"five played", row, memory);
+    load_five(&mut row, &mut memory, 131072 + 106);
+    shown(b"five more loaded", row, memory);
+    tick(&mut row, &mut memory);
+    shown(b"one more played", row, memory);
+    shown(b"emptied", written(row, 12, 2048 + 47), memory);
 }

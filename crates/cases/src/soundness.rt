@@ -1,91 +1,66 @@
-// Each clause of soundness broken alone gives 3; the record that it is broken in gives 0.
-use crate::refusals::powered;
+// Each clause of soundness broken alone gives 3; the record that it is broken in gives 0. Entries of a row are numbered as in
+// crates/layout/specs/Layout.antt.
+use crate::board::powered;
 use crate::refusals::refused;
-use rules::Board;
-use rules::Event;
 
-fn reads(text: &[u8], b: Board) {
-    refused(text, b, Event::Read { offset: 0 });
+fn reads(text: &[u8], row: [u32; 55]) {
+    refused(text, row, [3, 0, 0, 0, 0, 0]);
 }
 
-fn numbers(b: Board) {
-    let mut x = b;
-    x.core.options.range = 3;
-    reads(b"range 3", x);
-    x = b;
-    x.core.options.filter = 3;
-    reads(b"filter 3", x);
-    x = b;
-    x.core.options.kit = 3;
-    reads(b"kit 3", x);
-    x = b;
-    x.core.options.firmware = 4096;
-    reads(b"firmware 4096", x);
-    x = b;
-    x.core.outputs.mask = 1048576;
-    reads(b"a mask bit above channel 19", x);
-    x = b;
-    x.core.outputs.cursor = 21;
-    reads(b"cursor 21", x);
-    x = b;
-    x.core.control.selection = 8;
-    reads(b"selection 8", x);
-    x = b;
-    x.core.clock.nclk = 512;
-    reads(b"Nclk 512", x);
+// A sound row with one entry changed.
+fn broken(text: &[u8], row: [u32; 55], at: usize, value: u32) {
+    let mut other = row;
+    other[at % 55] = value;
+    reads(text, other);
 }
 
-fn places(b: Board) {
-    let mut x = b;
-    x.ring.first = 8;
-    reads(b"first at the depth", x);
-    x = b;
-    x.ring.count = 9;
-    reads(b"count above the depth", x);
-    x = b;
-    x.size.code = 16;
-    reads(b"size code 16", x);
-    x = b;
-    x.size.fitted = 16;
-    reads(b"fitted code 16", x);
+// A sound row with two entries changed: the second makes room for the first to be the only fault.
+fn both(text: &[u8], row: [u32; 55], at: usize, value: u32, with: usize) {
+    let mut other = row;
+    other[at % 55] = value;
+    other[with % 55] = 1;
+    reads(text, other);
 }
 
-fn states(b: Board) {
-    let mut x = b;
-    x.core.powered = false;
-    reads(b"unpowered", x);
-    x = b;
-    x.core.load.opened = true;
-    reads(b"opened and not circular", x);
-    x = b;
-    x.core.load.pending = true;
-    reads(b"pending and not circular", x);
-    x.core.load.opened = true;
-    x.core.mode.circular = true;
-    reads(b"pending and opened", x);
-    x = b;
-    x.core.burst.running = true;
-    reads(b"a burst with bursts not enabled", x);
-    x = b;
-    x.core.burst.software = true;
-    reads(b"software-started and no burst", x);
-    x = b;
-    x.core.calibration.running = true;
-    x.core.calibration.calibrated = true;
-    reads(b"calibrating and calibrated", x);
-    x = b;
-    x.core.control.simultaneous = true;
-    x.core.outputs.cursor = 1;
-    reads(b"cursor 1 in simultaneous mode", x);
+fn numbers(row: [u32; 55]) {
+    broken(b"range 3", row, 1, 3);
+    broken(b"filter 3", row, 2, 3);
+    broken(b"kit 3", row, 3, 3);
+    broken(b"firmware 4096", row, 4, 4096);
+    broken(b"a mask bit above channel 19", row, 30, 1048576);
+    broken(b"a mask of channels that are not fitted", row, 3, 0);
+    broken(b"cursor 21", row, 31, 21);
+    broken(b"selection 8", row, 13, 8);
+    broken(b"Nclk 512", row, 21, 512);
+}
+
+fn places(row: [u32; 55]) {
+    broken(b"first at the depth", row, 33, 8);
+    broken(b"count above the depth", row, 34, 9);
+    broken(b"size code 16", row, 6, 16);
+    broken(b"fitted code 16", row, 5, 16);
+}
+
+fn states(row: [u32; 55]) {
+    broken(b"unpowered", row, 0, 0);
+    broken(b"pending and not circular", row, 26, 1);
+    broken(b"opened and not circular", row, 27, 1);
+    broken(b"a burst with bursts not enabled", row, 24, 1);
+    broken(b"software-started and no burst", row, 25, 1);
+    both(b"calibrating and calibrated", row, 17, 1, 19);
+    both(b"cursor 1 in simultaneous mode", row, 31, 1, 12);
 }
 
 pub(crate) fn all() {
-    let b = powered();
-    reads(b"sound", b);
-    numbers(b);
-    places(b);
-    states(b);
-    let mut x = b;
-    x.core.options.kit = 0;
-    reads(b"a mask of channels that are not fitted", x);
+    let row = powered();
+    reads(b"sound", row);
+    numbers(row);
+    places(row);
+    states(row);
+    let mut circular = row;
+    circular[16] = 1;
+    circular[26] = 1;
+    reads(b"pending and circular", circular);
+    circular[27] = 1;
+    reads(b"pending and opened", circular);
 }

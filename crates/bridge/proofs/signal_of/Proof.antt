@@ -1,5 +1,5 @@
 use borrow.Author.Tests.{ne-eqb}
-use Rattle.bridge.specs.Events.{signalOf}
+use Rattle.session.specs.File.{signalOf}
 use Rattle.bridge.proofs.signal_of.Statement.{statement}
 use Rattle.bridge.proofs.signal_of.Tie as tie
 
