@@ -1,17 +1,13 @@
 -- What a sound record over enough memory gives the code to count on.
 use Prim.Native.Nat.{ℕ, _^_, _≤_}
-use mathlib.Core.Path.{_≡_, _∙_}
 use native.Mathlib.Nat.{le-trans}
 use native.Mathlib.Omega.{arith}
-use borrow.Author.Tests.{le-leb}
 use lib.Pow.{pow-mono}
 use Rattle.rules.specs.Record.{State, depthOf, depth}
 use Rattle.rules.specs.Laws.Soundness.{Stands}
 use Rattle.rules.proofs.Sizes.{channels-le}
 use Rattle.rules.proofs.Soundness.{sound-core}
-use Rattle.record.specs.Promises.{DepthTold}
 use Rattle.moves.specs.Ready.{Ready, Sober}
-use Rattle.board.specs.Types.{Board}
 use Rattle.board.specs.Parts.{Sized}
 
 depth-small : (d : ℕ) → d ≤ 15 → depthOf d ≤ 262144
@@ -38,7 +34,3 @@ stands-sober s h =
       mask = le-trans (c .outputs .mask) (pow-mono (channels-le (s .board .core .options .kit)));
       cursor = h .sound .cursor;
     }
-
--- the depth that is told of a fitted code in range
-pub depth-told : (b : Board) (r : ℕ) → DepthTold b r → b .size .fitted ≤ 15 → r ≡ depth b
-depth-told b r p h = p .told ∙ rw (le-leb _ _ h)

@@ -1,7 +1,7 @@
 // The board: one event on a record and its lent sample memory, as `rules` says.
 // Every call takes every input. What each promises is in specs/Promises.antt.
 ghost use Rattle.board.specs.Promises.{Stepped};
-use record::refusal;
+use refusals::refusal;
 use rules::Answer;
 use rules::Board;
 use rules::Event;

@@ -4,7 +4,7 @@
 --   listing s m    the whole listing of the file s on a board with the sample memory m
 --   left s m       the board and the memory that the session leaves
 use Prim.Native.Nat.{ℕ, _+_, _*_, _^_, _<_}
-use mathlib.Core.Bool.{Bool, cond}
+use mathlib.Core.Bool.{cond}
 use mathlib.Core.List.{List, [], _∷_, _++_}
 use lib.Dec.{ltb}
 use lib.ListN.{length}

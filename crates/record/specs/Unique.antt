@@ -3,8 +3,7 @@ use Prim.Native.Nat.{ℕ}
 use mathlib.Core.Path.{_≡_}
 use mathlib.Core.Bool.{Bool}
 use Rattle.rules.specs.declared.Board.{Board}
-use Rattle.rules.specs.declared.Event.{Event}
-use Rattle.record.specs.Promises.{Unpowered, SoundTold, DepthTold, LimitTold, Refused}
+use Rattle.record.specs.Promises.{Unpowered, SoundTold, DepthTold, LimitTold}
 
 abbrev pub Unpowered-unique : Type 0
 Unpowered-unique = (r r′ : Board) → Unpowered r → Unpowered r′ → r ≡ r′
@@ -17,6 +16,3 @@ Depth-unique = (b : Board) (r r′ : ℕ) → DepthTold b r → DepthTold b r′
 
 abbrev pub Limit-unique : Type 0
 Limit-unique = (kit r r′ : ℕ) → LimitTold kit r → LimitTold kit r′ → r ≡ r′
-
-abbrev pub Refused-unique : Type 0
-Refused-unique = (b : Board) (len : ℕ) (e : Event) (r r′ : ℕ) → Refused b len e r → Refused b len e r′ → r ≡ r′

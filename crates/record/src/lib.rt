@@ -1,8 +1,6 @@
-// A board record by itself: the unpowered one, whether one is sound, its depth, and which events are refused.
+// A board record by itself: the unpowered one, whether one is sound, and its depth.
 // Every call takes every input. What each promises is in specs/Promises.antt.
-ghost use Rattle.record.specs.Promises.{Unpowered, SoundTold, DepthTold, LimitTold, Refused};
-use crate::refusals::ordinary_refusal;
-use crate::refusals::power_up_refusal;
+ghost use Rattle.record.specs.Promises.{Unpowered, SoundTold, DepthTold, LimitTold};
 use crate::soundness::depth_of;
 use crate::soundness::sound;
 use rules::Board;
@@ -11,7 +9,6 @@ use rules::Calibration;
 use rules::Clock;
 use rules::Control;
 use rules::Core;
-use rules::Event;
 use rules::Load;
 use rules::Lost;
 use rules::Mode;
@@ -20,7 +17,6 @@ use rules::Outputs;
 use rules::Ring;
 use rules::Size;
 
-mod refusals;
 mod soundness;
 
 // The record that a run starts from. 01: "The unpowered record is all zero."
@@ -117,19 +113,4 @@ pub fn mask_limit(kit: u32) -> u32
         return 4096;
     }
     1048576
-}
-
-// The number by which an event is refused on a record and a sample memory of `len` values; 0 where it is not.
-pub fn refusal(b: Board, len: usize, e: Event) -> u32
-    ensures { λ r. ⌜ Refused b len e r ⌝ }
-{
-    match e {
-        Event::PowerUp(x) => power_up_refusal(x, len),
-        Event::Write {
-            offset: _,
-            value: _,
-        } => ordinary_refusal(b, len, e),
-        Event::Read { offset: _ } => ordinary_refusal(b, len, e),
-        Event::Signal(_) => ordinary_refusal(b, len, e),
-    }
 }

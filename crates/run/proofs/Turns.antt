@@ -14,7 +14,7 @@ use Rattle.session.specs.File.{itemAt}
 use Rattle.run.specs.declared.Cursor.{Cursor}
 use Rattle.run.specs.declared.Progress.{Progress}
 use Rattle.run.specs.declared.Progress.the-variants.{Played, Ended}
-use Rattle.run.specs.Run.{Stage, onItem, advanced}
+use Rattle.run.specs.Run.{onItem, advanced}
 
 -- ---- The parts of a progress
 

@@ -1,7 +1,6 @@
 -- At each turn the session from the cursor on, played on the state, leaves what the whole one leaves on the unpowered board.
 use mathlib.Core.Path.{_≡_, refl, sym, ap, subst, _∙_}
 use Prim.Native.Nat.{_-_}
-use native.Mathlib.Omega.{arith}
 use borrow.Author.Needs.{needs}
 use lib.ListN.{length}
 use Rattle.rules.specs.declared.Board.{Board}

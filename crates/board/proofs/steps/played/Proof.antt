@@ -5,8 +5,9 @@ use Rattle.rules.specs.Record.{stored}
 use Rattle.rules.specs.Play.{play}
 use Rattle.rules.specs.Place.{place}
 use Rattle.rules.proofs.Sizes.{size-depth}
+use Rattle.record.proofs.Told.{depth-told}
 use Rattle.moves.proofs.Standing.{only-does}
-use Rattle.board.proofs.Standing.{stands-ready, stands-sober, depth-told}
+use Rattle.board.proofs.Standing.{stands-ready, stands-sober}
 use Rattle.board.proofs.steps.played.Statement.{statement}
 use Rattle.board.proofs.steps.played.Tie as tie
 
