@@ -572,11 +572,13 @@ pub fn rate(b: Board) -> Figures
     if !is_sound(b) {
         return refused(3);
     }
-    if b.core.mode.external {
+    let k = b.core.clock;
+    let external = b.core.mode.external;
+    let undivided = k.divisor == 0;
+    if external {
         return refused(9);
     }
-    let k = b.core.clock;
-    if k.divisor == 0 {
+    if undivided {
         return refused(8);
     }
     Figures {

@@ -1,4 +1,5 @@
 // A run over a session file. `advance` is one record of it, and stands under every loop over a session; `run` is that loop.
+ghost use Rattle.record.specs.Promises.{Unpowered};
 ghost use Rattle.run.specs.Promises.{Advances, Runs};
 use board::step;
 use reader::read_at;
@@ -52,12 +53,19 @@ pub fn advance(s: &[u8], c: Cursor, b: Board, memory: &mut [u32]) -> Advanced
     }
 }
 
+// 01: "A run starts unpowered"
+fn start() -> Board
+    ensures { λ r. ⌜ Unpowered r ⌝ }
+{
+    unpowered()
+}
+
 // 01: "A run starts unpowered and goes on past refused events and lost values. A file refusal stops it, and record and memory stay as
 // the earlier records left them."
 pub fn run(s: &[u8], memory: &mut [u32]) -> Ran
     ensures { λ r. ⌜ Runs (now (s .entry)) (now (memory .entry)) r (now (memory .exit)) ⌝ }
 {
-    let mut b = unpowered();
+    let mut b = start();
     let mut c = Cursor { place: 0 };
     loop {
         let a = advance(s, c, b, memory);

@@ -2,7 +2,7 @@ use mathlib.Core.Path.{_≡_, sym, _∙_}
 use mathlib.Core.Bool.{Bool, true, false, not}
 use native.Mathlib.Omega.{arith}
 use borrow.Author.Needs.{needs}
-use borrow.Author.Tests.{eq-eqb, ne-eqb, not-true, not-false}
+use borrow.Author.Tests.{eqb-false, not-true, not-false}
 use Rattle.rules.specs.declared.Board.{Board}
 use Rattle.rules.specs.Record.{sound}
 use Rattle.rules.specs.Refusals.{firstOf}
@@ -35,7 +35,7 @@ refused-requires-2 c κs = search needs
 returns-2 : tie.Need-returns-2
 unfolding rates rateRefusal firstOf
 returns-2 c =
-    let t = c .before .before in
+    let t = c .before .before .before .before in
     record { told = c .refused2 .ensures ∙ rw (is-so (t .before .is-sound .ensures) (t .if1 .left), c .before .if2 .taken) }
 
 refused-requires-3 : tie.Need-refused-requires-3
@@ -44,8 +44,9 @@ refused-requires-3 c κs = search needs
 returns-3 : tie.Need-returns-3
 unfolding rates rateRefusal firstOf
 returns-3 c =
-    let u = c .before .before .before .before in
-    record { told = c .refused3 .ensures ∙ rw (is-so (u .before .before .is-sound .ensures) (u .before .if1 .left), u .if2 .left, eq-eqb _ _ (c .before .if3 .taken)) }
+    let t = c .before .before .before .before .before in
+    let sure = is-so (t .before .is-sound .ensures) (t .if1 .left) in
+    record { told = c .refused3 .ensures ∙ rw (sure, c .before .before .if2 .left, c .before .if3 .taken) }
 
 whole-reference-requires : tie.Need-whole-reference-requires
 whole-reference-requires c κs =
@@ -55,14 +56,16 @@ whole-reference-requires c κs =
 sample-rate-requires : tie.Need-sample-rate-requires
 sample-rate-requires c κs =
     let t = c .before .before .before .before .before in
-    ((sound-exactly _ .0 (is-so (t .before .is-sound .ensures) (t .if1 .left))) .nclk, omega (arith, c .before .if3 .left))
+    let divided = eqb-false (t .before .before .args .b .core .clock .divisor) 0 (c .before .if3 .left) in
+    ((sound-exactly _ .0 (is-so (t .before .is-sound .ensures) (t .if1 .left))) .nclk, omega (arith, divided))
 
 returns-4 : tie.Need-returns-4
 unfolding rates rateRefusal firstOf
 returns-4 c =
-    let u = c .before .before .before .before .before in
-    let sure = is-so (u .before .before .is-sound .ensures) (u .before .if1 .left) in
-    record { told = rw (sure, u .if2 .left, ne-eqb _ _ (c .before .before .if3 .left), c .sample-rate .ensures, c .before .whole-reference .ensures) }
+    let t = c .before .before .before .before .before .before in
+    let sure = is-so (t .before .is-sound .ensures) (t .if1 .left) in
+    let three = c .before .before in
+    record { told = rw (sure, three .before .if2 .left, three .if3 .left, c .sample-rate .ensures, c .before .whole-reference .ensures) }
 
 pub rate-spec : {M : Type 1} → statement M
 rate-spec =

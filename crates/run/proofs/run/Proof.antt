@@ -18,14 +18,14 @@ Inv-loop s memory₀ b₀ c₀ memory b c = (length memory ≡ length memory₀)
 abbrev μ-loop : tie.MeasureT-loop
 μ-loop s memory₀ b₀ c₀ memory b c = length s - c .place
 
-unpowered-requires : tie.Need-unpowered-requires Inv-loop μ-loop
-unpowered-requires c κs = tt
+start-requires : tie.Need-start-requires Inv-loop μ-loop
+start-requires c κs = tt
 
 loop-holds : tie.Need-loop-holds Inv-loop μ-loop
 loop-holds c =
     let a = c .before .before .before .args in
     let t = turn-start (a .s .now) (a .memory .now) in
-    let q = ap (λ (b : Board). stateOf b (a .memory .now)) (c .unpowered .ensures .board) in
+    let q = ap (λ (b : Board). stateOf b (a .memory .now)) (c .start .ensures .board) in
     (refl, session (a .s .now), subst (λ (st : State). Turn (a .s .now) (a .memory .now) st 0 (session (a .s .now))) (sym q) t)
 
 advance-requires : tie.Need-advance-requires Inv-loop μ-loop
@@ -82,7 +82,7 @@ run-spec =
     (tie.spec
     Inv-loop
     μ-loop
-    unpowered-requires
+    start-requires
     loop-holds
     advance-requires
     enum-known-p
