@@ -71,6 +71,9 @@ pub struct Pair {
     whole: bool,
     pub model: Outcome,
     pub ours: Outcome,
+    /// The rate question on the record after the event.
+    pub model_rate: Figures,
+    pub ours_rate: Figures,
 }
 
 impl Pair {
@@ -97,6 +100,8 @@ impl Pair {
             whole,
             model: nothing,
             ours: nothing,
+            model_rate: [0; 3],
+            ours_rate: [0; 3],
         }
     }
 
@@ -133,6 +138,8 @@ impl Pair {
         self.ours.status =
             caught(|| ours::call(&mut lent.record, lent_memory, &lent.event, &mut lent.answer));
         self.ours.answer = self.lent.answer;
+        self.model_rate = model::rate(&self.record);
+        self.ours_rate = ours::rate(&self.lent.record);
         self.steps += 1;
 
         let memory_same = if long && self.steps % EVERY != 0 {
@@ -143,6 +150,7 @@ impl Pair {
         self.model == self.ours
             && self.model.status == 0
             && self.record == self.lent.record
+            && self.model_rate == self.ours_rate
             && memory_same
             && self.lent.event == *event
             && self.guards_stand()
@@ -231,6 +239,8 @@ pub struct Difference {
     pub fields: Vec<(usize, u32, u32)>,
     /// Place, model's entry, ours.
     pub entries: Vec<(usize, u32, u32)>,
+    /// The figures of the rate question, the model's and ours.
+    pub rates: (Figures, Figures),
     pub guards_stand: bool,
     pub event_kept: bool,
     /// The signal that ended the other side.
@@ -313,6 +323,12 @@ impl Difference {
             1 => names.push(format!("memory[{}]", self.entries[0].0)),
             n => names.push(format!("{n} memory entries")),
         }
+        for (i, name) in FIGURES.iter().enumerate() {
+            let (model, ours) = (self.rates.0[i], self.rates.1[i]);
+            if model != ours {
+                names.push(format!("{name} {model}/{ours}"));
+            }
+        }
         if !self.guards_stand {
             names.push("words beside the lent slices".to_string());
         }
@@ -356,6 +372,7 @@ pub fn difference(pair: &Pair, at: usize, event: &Event) -> Difference {
         ours: pair.ours,
         fields,
         entries,
+        rates: (pair.model_rate, pair.ours_rate),
         guards_stand: pair.guards_stand(),
         event_kept: pair.event_kept(event),
         signal: None,

@@ -16,6 +16,7 @@ pub struct Seen<'a> {
     pub memory_before: &'a [u32],
     pub event: &'a Event,
     pub outcome: &'a Outcome,
+    pub rate: &'a Figures,
     pub after: &'a Record,
     /// Not the session's first event.
     pub later: bool,
@@ -627,6 +628,20 @@ impl Coverage {
         hit(
             "selection changed by a write",
             bcr && b[SELECTION] != a[SELECTION],
+        );
+
+        let [refused, reference, rate] = *seen.rate;
+        let asked = refused == 0;
+        hit("rate answered, ALT 0", asked && a[ALT] == 0);
+        hit("rate answered, ALT 1", asked && a[ALT] == 1);
+        hit("rate answered 0", asked && rate == 0);
+        hit("rate answered the reference", asked && rate == reference);
+        hit("rate refused 3", refused == 3);
+        hit("rate refused 8", refused == 8);
+        hit("rate refused 9", refused == 9);
+        hit(
+            "rate refused 9 with divisor 0",
+            refused == 9 && a[DIVISOR] == 0,
         );
 
         hit("memory of exactly the depth", sound && length == deep);

@@ -6,6 +6,8 @@ pub const RECORD: usize = 55;
 pub type Record = [u32; RECORD];
 pub type Event = [u32; 6];
 pub type Answer = [u32; 4];
+/// What the rate question answers: refusal number, whole reference and rate.
+pub type Figures = [u32; 3];
 
 pub const POWERED: usize = 0;
 pub const RANGE: usize = 1;
@@ -83,6 +85,7 @@ const NAMES: [&str; LEVELS] = [
 ];
 
 pub const ANSWERS: [&str; 4] = ["refusal", "register", "moved", "fate"];
+pub const FIGURES: [&str; 3] = ["rate refusal", "reference", "rate"];
 
 /// The fields that are 0 or 1.
 pub const FLAGS: [usize; 22] = [

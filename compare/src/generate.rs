@@ -1,6 +1,8 @@
 //! Sessions: a start (record and memory) and events, chosen one at a time with
 //! an eye on the model's record, so that rules meet often.
 
+mod in_file;
+
 use crate::fields::*;
 use crate::rng::Rng;
 
@@ -17,6 +19,8 @@ pub enum Start {
     OneField,
     /// A sound record or a power-up with a fitted code of 5 to 15.
     Deep,
+    /// The unpowered record, over the memory of `rehearse`: a session file.
+    File,
 }
 
 pub struct Session {
@@ -25,6 +29,13 @@ pub struct Session {
     left: u32,
     /// No event yet.
     fresh: bool,
+    /// Of a session file: how far the set-up after a power-up is, the events
+    /// that come next (the next one last), and how many reads at the end.
+    set_up: u32,
+    ahead: Vec<Event>,
+    last_reads: u32,
+    /// Register writes are as the session prefers, not as the register is.
+    eager: bool,
     pub start: Start,
     pub record: Record,
     pub memory: Vec<u32>,
@@ -124,6 +135,10 @@ impl Session {
             style,
             left: 0,
             fresh: true,
+            set_up: 0,
+            ahead: Vec::new(),
+            last_reads: 0,
+            eager: false,
             start,
             record: [0; RECORD],
             memory: Vec::new(),
@@ -202,6 +217,8 @@ impl Session {
                     self.memory.pop();
                 }
             }
+            // `of_file` has made it.
+            Start::File => {}
         }
     }
 
@@ -211,12 +228,19 @@ impl Session {
             return None;
         }
         self.left -= 1;
-        Some(self.choose(record))
+        let event = self.choose(record);
+        if self.start == Start::File {
+            self.read_back(&event);
+        }
+        Some(event)
     }
 
     fn choose(&mut self, record: &Record) -> Event {
         if matches!(self.start, Start::Broken | Start::OneField) {
             return self.anything(record);
+        }
+        if let Some(event) = self.last_read() {
+            return event;
         }
         if record[POWERED] == 0 {
             return if self.rng.chance(5, 6) {
@@ -232,6 +256,11 @@ impl Session {
         self.fresh = false;
         if self.start == Start::Deep && self.rng.chance(1, 8) {
             return read(BOR);
+        }
+        if self.start == Start::File {
+            if let Some(event) = self.in_file(record) {
+                return event;
+            }
         }
         if record[CALIBRATING] == 1 && self.rng.chance(1, 4) {
             return simple(self.rng.pick(&[PASSED, PASSED, FAILED]));
@@ -286,6 +315,7 @@ impl Session {
                 }
             }
             F_INITIALISE => {
+                self.set_up = 0;
                 let other = self.rng.word() & self.rng.word();
                 write(BCR, other | 1 << 15)
             }
@@ -381,7 +411,7 @@ impl Session {
     /// A stored bit in a register write: mostly as it is, else as the session
     /// prefers.
     fn stored(&mut self, now: u32, preferred: u32) -> u32 {
-        if self.rng.chance(5, 8) {
+        if !self.eager && self.rng.chance(5, 8) {
             now
         } else {
             self.chance(preferred) as u32
@@ -389,7 +419,7 @@ impl Session {
     }
 
     fn bcr(&mut self, r: &Record) -> u32 {
-        let selection = if self.rng.chance(3, 4) {
+        let selection = if !self.eager && self.rng.chance(3, 4) {
             r[SELECTION]
         } else {
             self.rng.below(8)
@@ -508,11 +538,17 @@ impl Session {
 
     /// A power-up that the memory's length allows, if there is one.
     fn power_up_accepted(&mut self) -> Event {
-        let wanted = if self.start == Start::Deep {
+        let deep = match self.start {
+            Start::Deep => true,
+            Start::File => self.rng.chance(1, 10),
+            _ => false,
+        };
+        let wanted = if deep {
             self.rng.below(16)
         } else {
             self.fitted()
         };
+        self.set_up = 0;
         let mut fitted = wanted;
         while fitted > 0 && self.memory.len() < 8 << fitted {
             fitted -= 1;

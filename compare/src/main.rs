@@ -3,20 +3,16 @@
 
 mod check;
 mod coverage;
-mod fields;
-mod generate;
 mod misuse;
-mod model;
 mod ours;
 mod print;
-mod process;
-mod rng;
 mod shrink;
 
 use check::{Case, Difference, Key, Outcome, Pair};
+use compare::generate::Session;
+use compare::process::{End, Progress};
+use compare::{fields, model, process, words};
 use coverage::{Coverage, Seen};
-use generate::Session;
-use process::{End, Progress};
 use std::process::exit;
 
 const HELP: &str = "\
@@ -36,8 +32,8 @@ usage: compare [--seed S] [--events N] [--keep-going] [--coverage]
                   then not reported
   --help          this text
 
-After every event the answer, the 55 numbers of the record, the sample memory
-and the words beside the lent slices are compared. A difference is shrunk and
+After every event the answer, the 55 numbers of the record, the rate figures,
+the sample memory and the words beside the lent slices are compared. A difference is shrunk and
 printed. The last line is `N events, D differ`.
 Exit status: 0 nothing differs, 1 something does, 2 wrong usage.
 ";
@@ -169,7 +165,7 @@ fn run(options: &Options, progress: &Progress) -> i32 {
         while let Some(event) = session.next(&pair.record) {
             progress.set(1, events.len() as u64);
             if options.only.is_some() {
-                println!("  {:3}. {}", events.len() + 1, print::words(&event));
+                println!("  {:3}. {}", events.len() + 1, words::words(&event));
             }
             events.push(event);
             let before = coverage
@@ -182,6 +178,7 @@ fn run(options: &Options, progress: &Progress) -> i32 {
                     memory_before,
                     event: &event,
                     outcome: &pair.model,
+                    rate: &pair.model_rate,
                     after: &pair.record,
                     later: events.len() > 1,
                 });
@@ -257,7 +254,7 @@ fn report(
         );
         println!(
             "first seen: {}: {} (model/ours)",
-            print::short(&seen.event),
+            words::short(&seen.event),
             seen.names().join(", ")
         );
         print!("{}", print::case(case));
@@ -271,7 +268,7 @@ fn report(
         return;
     }
     let names = found.names().join(", ");
-    let event = print::short(&found.event);
+    let event = words::short(&found.event);
     let (small, found) = shrink::shrink(case, found, TRIES, &mut check::run);
     known.shrunk += 1;
     let second = kind(&small, &found);
@@ -344,6 +341,7 @@ fn died(options: &Options, progress: &Progress, signal: i32) -> i32 {
             },
             fields: Vec::new(),
             entries: Vec::new(),
+            rates: ([0; 3], [0; 3]),
             guards_stand: true,
             event_kept: true,
             signal: Some(signal),
@@ -363,7 +361,7 @@ fn died(options: &Options, progress: &Progress, signal: i32) -> i32 {
             );
             println!(
                 "first seen: {}: ours died of signal {signal}",
-                print::short(&case.events[case.events.len() - 1])
+                words::short(&case.events[case.events.len() - 1])
             );
             print!("{}", print::case(&small));
             print!("{}", print::difference(&found));

@@ -121,3 +121,8 @@ pub fn call(record: &mut [u32], memory: &mut [u32], event: &[u32], answer: &mut 
     answer.copy_from_slice(&[given.refusal, given.register, given.moved, given.fate]);
     0
 }
+
+/// The rate question's refusal number, whole reference and rate.
+pub fn rate(record: &[u32]) -> [u32; 3] {
+    second::rates(&decode(record)).into()
+}

@@ -15,6 +15,11 @@ impl Rng {
         Rng(mix(start ^ mix(stream.wrapping_add(0x1234_5678_9ABC_DEF1))))
     }
 
+    /// Another sequence, for a part of the work.
+    pub fn fork(&mut self) -> Rng {
+        Rng::new(self.word() as u64, self.word() as u64)
+    }
+
     pub fn word(&mut self) -> u32 {
         self.0 = self.0.wrapping_add(0x9E37_79B9_7F4A_7C15);
         (mix(self.0) >> 32) as u32

@@ -1,5 +1,5 @@
 /* The proved board model for hosts in C: one event on a board record, its sample memory and an event, all as numbers;
- * and the rate question of a board record.
+ * the rate question of a board record; and the listing of a whole session file.
  * Link with libbridge.a (`rt staticlib bridge`), which is for Linux on x86-64. */
 #ifndef NERGUTSAI_H
 #define NERGUTSAI_H
@@ -70,6 +70,20 @@ uint32_t nergutsai_event(
 uint32_t nergutsai_rate(
     const uint32_t *record, size_t record_length,
     uint32_t *figures, size_t figures_length);
+
+/* The room that the listing of a session file of n bytes asks for. */
+#define NERGUTSAI_ROOM(n) ((size_t)(n) > 65536 ? (size_t)9 : 160 + 22 * (size_t)(n))
+
+/* The listing of a session file, on a board with this sample memory (16,384 values in `rehearse`).
+ * Returns how many bytes of text now stand at the start of the output, with no NUL after them; 0 if the output is shorter than
+ * NERGUTSAI_ROOM says: then nothing was run and nothing written. Any bytes may be handed in: what is wrong with a file stands in
+ * its listing.
+ * The file is only read. The three pointers must be aligned and not NULL, for as many bytes or numbers as their lengths say, and
+ * no two may overlap. */
+size_t nergutsai_list(
+    const uint8_t *file, size_t file_length,
+    uint32_t *memory, size_t memory_length,
+    uint8_t *output, size_t output_length);
 
 #ifdef __cplusplus
 }

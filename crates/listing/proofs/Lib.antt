@@ -6,3 +6,4 @@ pub mod Body
 pub mod Writing
 pub mod Answers
 pub mod Unique
+pub mod AtOnce

@@ -1,8 +1,8 @@
 -- The laws of numbers (specs/Laws): how long their digits are, and that read back they are the number again.
 use Prim.Native.Nat.{ℕ, zero, suc, _+_, _*_, _/_, _%_, _^_, _<_, _≤_}
-use mathlib.Core.Path.{_≡_, refl}
-use mathlib.Core.List.{List, [], _∷_, _++_}
-use native.Mathlib.Nat.{div-add-mod, div-lt-iff-lt-mul, pow-suc}
+use mathlib.Core.Path.{_≡_, refl, sym, _∙_}
+use mathlib.Core.List.{List, [], _∷_, _++_, append-assoc}
+use native.Mathlib.Nat.{add-suc, div-add-mod, div-lt-iff-lt-mul, pow-suc}
 use native.Mathlib.Numerals.{add-one}
 use native.Mathlib.Omega.{arith}
 use lib.Dec.{ltb}
@@ -34,11 +34,37 @@ field-long n = omega (arith, decimal-long 9 n)
 front : (base k n : ℕ) → zero < base → n < base ^ suc k → n / base < base ^ k
 front base k n h l = div-lt-iff-lt-mul {k = base} {x = n} {y = base ^ k} h .1 (rw pow-suc at l)
 
--- room for more digits than a number has changes nothing
-pub decimal-more : (f n : ℕ) → n < 10 ^ suc f → decimalIn (suc f) n ≡ decimalIn f n
+pub decimal-one : (f n : ℕ) → n < 10 → decimalIn f n ≡ digit n ∷ []
 unfolding decimalIn
-decimal-more zero n h = rw (lt-ltb n 10 h)
-decimal-more (suc f) n h = rw (decimal-more f (n / 10) (front 10 (suc f) n (omega arith) h))
+decimal-one zero n h = refl
+decimal-one (suc f) n h = rw (lt-ltb n 10 h)
+
+pub decimal-next : (f n : ℕ) → 10 ≤ n → decimalIn (suc f) n ≡ decimalIn f (n / 10) ++ digit (n % 10) ∷ []
+unfolding decimalIn
+decimal-next f n h = rw (le-ltb n 10 h)
+
+-- the last four at once
+pub decimal-four : (f n : ℕ) → 10000 ≤ n
+    → decimalIn (suc (suc (suc (suc f)))) n
+    ≡ decimalIn f (n / 10 / 10 / 10 / 10) ++ digit (n / 10 / 10 / 10 % 10) ∷ digit (n / 10 / 10 % 10) ∷ digit (n / 10 % 10) ∷ digit (n % 10) ∷ []
+decimal-four f n h =
+    rw (
+      decimal-next (suc (suc (suc f))) n (omega arith),
+      decimal-next (suc (suc f)) (n / 10) (omega arith),
+      decimal-next (suc f) (n / 10 / 10) (omega arith),
+      decimal-next f (n / 10 / 10 / 10) (omega arith),
+    )
+    (simp append-assoc)
+
+-- room for more digits than a number has changes nothing
+pub decimal-room : (k f n : ℕ) → n < 10 ^ suc f → decimalIn (k + f) n ≡ decimalIn f n
+unfolding decimalIn
+decimal-room k zero n h = decimal-one (k + zero) n h ∙ sym (decimal-one zero n h)
+decimal-room k (suc f) n h = rw (add-suc, decimal-room k f (n / 10) (front 10 (suc f) n (omega arith) h))
+
+pub hex-four : (k n : ℕ) → hex (suc (suc (suc (suc k)))) n ≡ hex k (n / 16 / 16 / 16 / 16) ++ hex 4 n
+unfolding hex
+hex-four k n = simp append-assoc
 
 -- ---- Read back
 

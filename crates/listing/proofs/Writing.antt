@@ -6,6 +6,7 @@ use native.Mathlib.Omega.{arith}
 use lib.ListN.{length}
 use Rattle.rules.specs.declared.Answer.{Answer}
 use Rattle.rules.specs.declared.Event.{Event}
+use Rattle.rules.specs.declared.Board.{Board}
 use Rattle.rules.specs.Record.{State, start}
 use Rattle.rules.specs.Step.{step}
 use Rattle.rules.specs.Session.{after}
@@ -14,12 +15,16 @@ use Rattle.session.specs.declared.Item.the-variants.{Got, Over}
 use Rattle.session.specs.File.{itemAt, Session, session}
 use Rattle.session.proofs.Given.{item-grows}
 use Rattle.session.proofs.Rests.{Rest, rest-start, rest-got, rest-over}
+use Rattle.board.specs.declared.Reply.{Reply}
+use Rattle.board.specs.Promises.{Stepped}
 use Rattle.listing.specs.Text.{line}
 use Rattle.listing.specs.Pieces.{Put}
 use Rattle.listing.specs.Listing.{tail, left}
+use Rattle.listing.specs.Shortcuts.{stateOf, Kept}
 use Rattle.listing.proofs.Puts.{then, put-length}
 use Rattle.listing.proofs.Lengths.{line-length}
 use Rattle.listing.proofs.Body.{levelsOf, body, body-event, body-end}
+use Rattle.listing.proofs.AtOnce.{kept-step}
 
 -- x is the session from `place` on, to be played on the state st and written from the byte `at` of the output on, its first line
 -- numbered `number`; out₀ and at₀ are those after the heading
@@ -67,3 +72,16 @@ module _ (s m out₀ : List ℕ) (at₀ : ℕ) (out : List ℕ) (at : ℕ) (st :
       let r = rest-over s place x (t .rest) z h in
       let same = body-end number st x z (r .0) (r .1) in
       (t .text o q (rw same (subst (λ (l : List ℕ). Put out at (tail z l) o q) e w)), sym (ap (after st) (r .0)) ∙ t .leaves)
+
+-- ---- The same for the board and the memory that an event leaves, by whatever code
+
+pub turn-stepped : (s m out₀ : List ℕ) (at₀ : ℕ) (out : List ℕ) (at : ℕ) (b : Board) (mem : List ℕ) (place number : ℕ) (x : Session)
+    → Turn s m out₀ at₀ out at (stateOf b mem) place number x → Kept (stateOf b mem)
+    → (e : Event) (next : ℕ) (r : Reply) (mem′ out′ : List ℕ) (at′ : ℕ) → itemAt s place ≡ Got e next → Stepped b mem e r mem′
+    → Put out at (line number (r .answer) (r .board .ring .count)) out′ at′
+    → Kept (stateOf (r .board) mem′) × (y : Session) × Turn s m out₀ at₀ out′ at′ (stateOf (r .board) mem′) next (number + 1) y
+turn-stepped s m out₀ at₀ out at b mem place number x t k e next r mem′ out′ at′ h p w =
+    let st = stateOf b mem in
+    let q : (step st e) .state ≡ stateOf (r .board) mem′ = sym (λ i. stateOf (p .board i) (p .memory i)) in
+    let u = turn-line s m out₀ at₀ out at st place number x t e next (r .answer) _ out′ at′ h (p .answer) (ap (λ (c : Board). c .ring .count) (p .board)) w in
+    (subst Kept q (kept-step st e k), u .0, subst (λ (z : State). Turn s m out₀ at₀ out′ at′ z next (number + 1) (u .0)) q (u .1))

@@ -5,6 +5,7 @@ use crate::whole::put_listing;
 
 mod lines;
 mod pieces;
+mod shortcuts;
 mod tails;
 mod whole;
 

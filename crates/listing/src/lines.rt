@@ -7,6 +7,8 @@ ghost use Rattle.listing.specs.Pieces.{Put};
 use crate::pieces::put_byte;
 use crate::pieces::put_decimal;
 use crate::pieces::put_hex;
+use crate::pieces::put_long;
+use crate::pieces::put_register;
 use crate::pieces::put_text;
 use rules::Answer;
 
@@ -38,14 +40,35 @@ pub(crate) fn put_line(out: &mut [u8], at: usize, number: u32, a: Answer, count:
     requires { ⌜ at + 64 ≤ length (now out) ⌝ }
     ensures { λ r. ⌜ Put (now (out .entry)) at (line number a count) (now (out .exit)) r ⌝ }
 {
-    let p = put_decimal(out, at, number);
+    let p = put_long(out, at, number);
     let q = put_field(out, p, a.refusal);
     let r = put_byte(out, q, 32);
-    let s = put_hex(out, r, a.register, 8);
+    let s = put_register(out, r, a.register);
     let t = put_field(out, s, a.moved);
     let u = put_field(out, t, a.fate);
     let v = put_field(out, u, count);
     put_byte(out, v, 10)
+}
+
+// The line of an event that was done and is no read.
+pub(crate) fn put_done(
+    out: &mut [u8],
+    at: usize,
+    number: u32,
+    moved: u32,
+    fate: u32,
+    count: u32,
+) -> usize
+    requires { ⌜ at + 64 ≤ length (now out) ⌝ }
+    ensures { λ r. ⌜ Put (now (out .entry)) at (line number (record { refusal = 0; register = 0; moved = moved; fate = fate }) count) (now (out .exit)) r ⌝ }
+{
+    let answer = Answer {
+        refusal: 0,
+        register: 0,
+        moved: moved,
+        fate: fate,
+    };
+    put_line(out, at, number, answer, count)
 }
 
 // 01: "levels in four, channel 00 first"
@@ -58,7 +81,7 @@ pub(crate) fn put_levels(out: &mut [u8], at: usize, levels: [u16; 20]) -> usize
     while k < 20 {
         let level = levels[k] as u32;
         p = put_byte(out, p, 32);
-        p = put_hex(out, p, level, 4);
+        p = put_hex(out, p, level);
         k += 1;
     }
     put_byte(out, p, 10)

@@ -1,9 +1,9 @@
 // Pieces of the listing: bytes, texts and numbers, each written from a place on; the answer is the place after it.
-ghost use Prim.Native.Nat.{_+_, _<_, _≤_};
+ghost use Prim.Native.Nat.{_+_, _/_, _%_, _<_, _≤_};
 ghost use mathlib.Core.Path.{_≡_};
 ghost use mathlib.Core.List.{[], _∷_};
 ghost use lib.ListN.{length};
-ghost use Rattle.listing.specs.Text.{capital, hex, decimal};
+ghost use Rattle.listing.specs.Text.{digit, capital, hex, decimalIn, decimal};
 ghost use Rattle.listing.specs.Pieces.{Put};
 
 pub(crate) fn put_byte(out: &mut [u8], at: usize, b: u8) -> usize
@@ -36,25 +36,115 @@ pub(crate) fn capital_of(d: u32) -> u8
     (55 + d) as u8
 }
 
-// n in as many hexadecimal digits as the width says.
-pub(crate) fn put_hex(out: &mut [u8], at: usize, n: u32, width: usize) -> usize
-    requires { ⌜ at + width ≤ length (now out) ⌝ }
-    ensures { λ r. ⌜ Put (now (out .entry)) at (hex width n) (now (out .exit)) r ⌝ }
+// A number of one digit.
+pub(crate) fn put_one(out: &mut [u8], at: usize, n: u32) -> usize
+    requires { ⌜ (at < length (now out)) × (n < 10) ⌝ }
+    ensures { λ r. ⌜ Put (now (out .entry)) at (digit n ∷ []) (now (out .exit)) r ⌝ }
 {
-    if width == 0 {
-        return at;
-    }
-    let p = put_hex(out, at, n / 16, width - 1);
-    put_byte(out, p, capital_of(n % 16))
+    put_byte(out, at, (48 + n) as u8)
 }
 
+// The last digit of n.
+pub(crate) fn put_digit(out: &mut [u8], at: usize, n: u32) -> usize
+    requires { ⌜ at < length (now out) ⌝ }
+    ensures { λ r. ⌜ Put (now (out .entry)) at (digit (n % 10) ∷ []) (now (out .exit)) r ⌝ }
+{
+    put_one(out, at, n % 10)
+}
+
+// The last hexadecimal digit of n.
+pub(crate) fn put_capital(out: &mut [u8], at: usize, n: u32) -> usize
+    requires { ⌜ at < length (now out) ⌝ }
+    ensures { λ r. ⌜ Put (now (out .entry)) at (capital (n % 16) ∷ []) (now (out .exit)) r ⌝ }
+{
+    put_byte(out, at, capital_of(n % 16))
+}
+
+// The last four hexadecimal digits of n.
+pub(crate) fn put_hex(out: &mut [u8], at: usize, n: u32) -> usize
+    requires { ⌜ at + 4 ≤ length (now out) ⌝ }
+    ensures { λ r. ⌜ Put (now (out .entry)) at (hex 4 n) (now (out .exit)) r ⌝ }
+{
+    let q = n / 16;
+    let r = q / 16;
+    let a = put_capital(out, at, r / 16);
+    let b = put_capital(out, a, r);
+    let c = put_capital(out, b, q);
+    put_capital(out, c, n)
+}
+
+// n in eight hexadecimal digits. Most records answer 0: one text, so that it is one store.
+pub(crate) fn put_register(out: &mut [u8], at: usize, n: u32) -> usize
+    requires { ⌜ at + 8 ≤ length (now out) ⌝ }
+    ensures { λ r. ⌜ Put (now (out .entry)) at (hex 8 n) (now (out .exit)) r ⌝ }
+{
+    if n == 0 {
+        return put_text(out, at, b"00000000");
+    }
+    let p = put_hex(out, at, n / 16 / 16 / 16 / 16);
+    put_hex(out, p, n)
+}
+
+// The last four digits of n.
+pub(crate) fn put_four(out: &mut [u8], at: usize, n: u32) -> usize
+    requires { ⌜ at + 4 ≤ length (now out) ⌝ }
+    ensures { λ r. ⌜ Put (now (out .entry)) at (digit (n / 10 / 10 / 10 % 10) ∷ digit (n / 10 / 10 % 10) ∷ digit (n / 10 % 10) ∷ digit (n % 10) ∷ []) (now (out .exit)) r ⌝ }
+{
+    let q = n / 10;
+    let r = q / 10;
+    let a = put_digit(out, at, r / 10);
+    let b = put_digit(out, a, r);
+    let c = put_digit(out, b, q);
+    put_digit(out, c, n)
+}
+
+// A number of at most four digits.
+pub(crate) fn put_small(out: &mut [u8], at: usize, n: u32) -> usize
+    requires { ⌜ (at + 4 ≤ length (now out)) × (n < 10000) ⌝ }
+    ensures { λ r. ⌜ Put (now (out .entry)) at (decimalIn 3 n) (now (out .exit)) r ⌝ }
+{
+    if n < 10 {
+        return put_one(out, at, n);
+    }
+    let q = n / 10;
+    if q < 10 {
+        let a = put_one(out, at, q);
+        return put_digit(out, a, n);
+    }
+    let r = q / 10;
+    if r < 10 {
+        let b = put_one(out, at, r);
+        let c = put_digit(out, b, q);
+        return put_digit(out, c, n);
+    }
+    put_four(out, at, n)
+}
+
+// A number that mostly has more than one digit, four at a time: ten are two, four and four.
+pub(crate) fn put_long(out: &mut [u8], at: usize, n: u32) -> usize
+    requires { ⌜ at + 10 ≤ length (now out) ⌝ }
+    ensures { λ r. ⌜ Put (now (out .entry)) at (decimal n) (now (out .exit)) r ⌝ }
+{
+    if n < 10000 {
+        return put_small(out, at, n);
+    }
+    let high = n / 10 / 10 / 10 / 10;
+    if high < 10000 {
+        let p = put_small(out, at, high);
+        return put_four(out, p, n);
+    }
+    let q = put_small(out, at, high / 10 / 10 / 10 / 10);
+    let r = put_four(out, q, high);
+    put_four(out, r, n)
+}
+
+// A number that mostly has one digit: short, so that it is compiled into its callers.
 pub(crate) fn put_decimal(out: &mut [u8], at: usize, n: u32) -> usize
     requires { ⌜ at + 10 ≤ length (now out) ⌝ }
     ensures { λ r. ⌜ Put (now (out .entry)) at (decimal n) (now (out .exit)) r ⌝ }
 {
     if n < 10 {
-        return put_byte(out, at, (48 + n) as u8);
+        return put_one(out, at, n);
     }
-    let p = put_decimal(out, at, n / 10);
-    put_byte(out, p, (48 + n % 10) as u8)
+    put_long(out, at, n)
 }

@@ -78,11 +78,11 @@ abbrev pub atClock : Core → ℕ → Ring → List ℕ → Dealing
 atClock c d ring m = dealAll (c .control .binary) (closed c) d (targets c) (start c ring m)
 
 -- the core that a clock leaves
-abbrev pub coreAfter : Core → Deal → Core
-coreAfter c x =
+abbrev pub coreAfter : Core → ℕ → Deal → Core
+coreAfter c cursor x =
     withBurst (burstAfter (x .ended) (c .burst))
     (withLoad (loadAfter (x .ended) (c .load))
-    (withOutputs (record { mask = c .outputs .mask; cursor = cursorAfter c; levels = x .levels }) c))
+    (withOutputs (record { mask = c .outputs .mask; cursor = cursor; levels = x .levels }) c))
 
 left-outgoing : (c : Core) (d k : ℕ) (p : Place) → times (left (closed c) d) k p ≡ place d (outgoing c k) p
 unfolding outgoing place
@@ -96,7 +96,7 @@ left-outgoing c d k p = go (closed c)
 abbrev answer : Core → ℕ → Ring → List ℕ → ℕ → Played
 answer c d ring m k =
     let x : Deal = (atClock c d ring m) .deal in
-    record { core = coreAfter c x; ring = x .ring; moved = k; fate = 0 }
+    record { core = coreAfter c (cursorAfter c) x; ring = x .ring; moved = k; fate = 0 }
 
 -- dealing to the targets does what the rules say of a clock that moves values
 pub dealt-does : (c : Core) (d : ℕ) (ring : Ring) (m : List ℕ) → Ready d ring m → moving c (listed d ring m) ≢ 0
@@ -115,7 +115,7 @@ dealt-does c d ring m ready h =
         let ended = t .ended ∙ ap (λ (n : ℕ). carriesEof (take n (listed d ring m))) (sym e) in
         let places = t .places ∙ ap (λ (n : ℕ). times (left (closed c) d) n (placeOf ring m)) (sym e) ∙ left-outgoing c d (suc k) (placeOf ring m) in
         record {
-          core = λ i. coreAfter c (record { levels = levels i; ring = ring; ended = ended i });
+          core = λ i. coreAfter c (cursorAfter c) (record { levels = levels i; ring = ring; ended = ended i });
           moved = refl;
           fate = refl;
           ring = ap (λ (p : Place). p .ring) places;

@@ -1,18 +1,18 @@
 -- The tests of the public functions say just what those below count on; and so what the promises say of a core and a ring that fit.
-use Prim.Native.Nat.{ℕ, _≤_}
+use Prim.Native.Nat.{ℕ, _≤_, _<_}
 use mathlib.Core.Path.{_≡_}
-use mathlib.Core.Bool.{true}
+use mathlib.Core.Bool.{true, not}
 use mathlib.Core.List.{List}
 use borrow.Author.Tests.{leb-true, ltb-true, le-leb, lt-ltb}
 use lib.Dec.{leb}
 use lib.ListN.{length}
 use Rattle.rules.specs.declared.Core.{Core}
 use Rattle.rules.specs.declared.Ring.{Ring}
-use Rattle.rules.specs.Clocks.{clock}
+use Rattle.rules.specs.Clocks.{idle, clock}
 use Rattle.rules.specs.Writes.{writeData}
 use Rattle.rules.proofs.Choice.{and-both, both-and, all-cons, cons-all, all-nil}
 use Rattle.moves.specs.declared.Played.{Played}
-use Rattle.moves.specs.Ready.{Ready, Sober, fits, canClock, canLoad}
+use Rattle.moves.specs.Ready.{Ready, Sober, fits, canClock, canLoad, canTake}
 use Rattle.moves.specs.Does.{Does, listed}
 use Rattle.moves.specs.Promises.{Clocked, Loaded}
 
@@ -50,6 +50,18 @@ ready-clock c ring d m r s =
 pub clocked-does : (c : Core) (ring : Ring) (d : ℕ) (m : List ℕ) (r : Played) (m′ : List ℕ) → Ready d ring m → Sober c
     → Clocked c ring d m r m′ → Does d (clock c (listed d ring m)) ring m r m′
 clocked-does c ring d m r m′ h s p = rw (ready-clock c ring d m h s) at (p .does)
+
+-- ---- A clock of sequential mode
+
+pub take-ready : (c : Core) (ring : Ring) (d : ℕ) (m : List ℕ) → canTake c ring d (length m) ≡ true
+    → Ready d ring m × (c .outputs .cursor ≤ 20) × (0 < ring .count)
+unfolding canTake
+take-ready c ring d m h =
+    let t = and-both (canClock c ring d (length m)) _ h in
+    let u = and-both (not (c .control .simultaneous)) _ (t .1) in
+    let v = and-both (not (idle c)) _ (u .1) in
+    let r = clock-ready c ring d m (t .0) in
+    (r .0, r .1 .cursor, ltb-true _ _ (v .1))
 
 -- ---- A load
 

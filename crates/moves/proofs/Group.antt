@@ -1,72 +1,76 @@
--- The loop of `deal_group` over the channels: what holds at each turn, and that a turn keeps it.
-use Prim.Native.Nat.{ℕ, zero, _+_, _/_, _%_, _^_, _≤_, _<_}
-use mathlib.Core.Path.{_≡_, refl, sym, ap, _∙_}
-use mathlib.Core.Bool.{Bool}
-use mathlib.Core.List.{_∷_}
-use native.Mathlib.Nat.{div-div-eq-div-mul, pow-suc}
-use native.Mathlib.Numerals.{add-one}
+-- What the code does with one value is `dealOne`; and the loop of `deal_group` over the channels: what holds at each turn, and that a
+-- turn keeps it.
+use Prim.Native.Nat.{ℕ, zero, _+_, _≤_, _<_}
+use mathlib.Core.Path.{_≡_, refl, sym, ap, subst, _∙_}
+use mathlib.Core.Bool.{Bool, _||_}
+use mathlib.Core.List.{List, _∷_}
 use native.Mathlib.Omega.{arith}
-use lib.ListN.{length}
-use Rattle.rules.specs.Bits.{activeFrom}
+use lib.ListN.{length, set}
+use Rattle.rules.specs.Bits.{bit, activeFrom, headOr}
+use Rattle.rules.specs.Clocks.{coded}
+use Rattle.rules.specs.declared.Ring.{Ring}
 use Rattle.moves.specs.Ready.{Ready}
-use Rattle.moves.specs.Deal.{Dealing, placeNow, dealOne, dealAll}
+use Rattle.moves.specs.Deal.{Dealing, front, left, placeNow, dealOne, dealAll}
 use Rattle.moves.proofs.Rings.{ready-good, left-placed, left-count}
-use Rattle.moves.proofs.Passing.{active-on, active-off, active-end}
+use Rattle.moves.proofs.Heads.{head-none, head-next}
 
--- `rest` is what is left of the mask from the channel k on, and the values for it are there; to deal those from here is to deal all from s₀
-pub record Inv (mask : ℕ) (binary again : Bool) (d : ℕ) (s₀ s : Dealing) (rest k : ℕ) : Type 0 where
-  pub below : k ≤ 20
-  pub rest-is : rest ≡ mask / 2 ^ k
+abbrev pub dealing : List ℕ → Ring → Bool → List ℕ → Dealing
+dealing levels ring ended m = record { deal = record { levels = levels; ring = ring; ended = ended }; memory = m }
+
+-- ---- One value
+
+-- what the code makes of a value that passed, its parts equal to those of the rules
+pub one-dealt : (binary again : Bool) (d k : ℕ) (s : Dealing) (v level : ℕ) (ring : Ring) (m : List ℕ)
+    → level ≡ coded binary v → v ≡ front s → ring ≡ (left again d (placeNow s)) .ring → m ≡ (left again d (placeNow s)) .memory
+    → dealing (set (s .deal .levels) k level) ring (s .deal .ended || bit 16 v) m ≡ dealOne binary again d k s
+unfolding dealOne
+one-dealt binary again d k s v level ring m l e r n =
+    let same = l ∙ ap (coded binary) e in
+    λ i. dealing (set (s .deal .levels) k (same i)) (r i) (s .deal .ended || bit 16 (e i)) (n i)
+
+-- ---- The loop
+
+-- The channel k is the first of those from j up, and the values for these are there; to deal those from here is to deal all from s₀.
+pub record Inv (mask : ℕ) (binary again : Bool) (d : ℕ) (s₀ s : Dealing) (k : ℕ) : Type 0 where
+  pub j : ℕ
+  pub below : j ≤ 20
+  pub first : k ≡ headOr 20 (activeFrom j mask)
   pub ready : Ready d (s .deal .ring) (s .memory)
-  pub room : length (activeFrom k mask) ≤ s .deal .ring .count
+  pub room : length (activeFrom j mask) ≤ s .deal .ring .count
   pub same : length (s .memory) ≡ length (s₀ .memory)
-  pub whole : dealAll binary again d (activeFrom k mask) s ≡ dealAll binary again d (activeFrom 0 mask) s₀
+  pub whole : dealAll binary again d (activeFrom j mask) s ≡ dealAll binary again d (activeFrom 0 mask) s₀
 
-halved : (mask k rest : ℕ) → rest ≡ mask / 2 ^ k → rest / 2 ≡ mask / 2 ^ (k + 1)
-halved mask k rest h =
-    ap (λ (x : ℕ). x / 2) h ∙ div-div-eq-div-mul mask (2 ^ k) 2 ∙ ap (λ (x : ℕ). mask / x) (sym (pow-suc 2 k) ∙ ap (λ (n : ℕ). 2 ^ n) (sym (add-one k)))
+pub inv-start : {mask : ℕ} {binary again : Bool} {d : ℕ} {s : Dealing} {k : ℕ} → Ready d (s .deal .ring) (s .memory)
+    → length (activeFrom 0 mask) ≤ s .deal .ring .count → k ≡ headOr 20 (activeFrom 0 mask) → Inv mask binary again d s s k
+inv-start r h f = record { j = 0; below = omega arith; first = f; ready = r; room = h; same = refl; whole = refl }
 
-module _ (mask : ℕ) (binary again : Bool) (d : ℕ) (s₀ s : Dealing) (rest k : ℕ) (v : Inv mask binary again d s₀ s rest k) (h : k < 20) where
-  turned-on : rest % 2 ≡ 1 → activeFrom k mask ≡ k ∷ activeFrom (k + 1) mask
-  turned-on t = active-on k mask h (ap (λ (x : ℕ). x % 2) (sym (v .rest-is)) ∙ t)
+module _ {mask : ℕ} {binary again : Bool} {d : ℕ} {s₀ s : Dealing} {k : ℕ} (v : Inv mask binary again d s₀ s k) where
+  -- the channels that are left: this one, and those after it
+  here : k < 20 → activeFrom (v .j) mask ≡ k ∷ activeFrom (k + 1) mask
+  here h = rw (← v .first) at (head-next (v .j) mask (v .below) (rw (v .first) at h))
 
-  turned-off : (rest % 2 ≡ 1 → ⊥) → activeFrom k mask ≡ activeFrom (k + 1) mask
-  turned-off t = active-off k mask h (λ e. t (ap (λ (x : ℕ). x % 2) (v .rest-is) ∙ e))
+  pub inv-one : k < 20 → zero < s .deal .ring .count
+  inv-one h = omega (arith, v .room, ap length (here h))
 
-  pub inv-off : (rest % 2 ≡ 1 → ⊥) → Inv mask binary again d s₀ s (rest / 2) (k + 1)
-  inv-off t =
-      record {
-        below = omega arith;
-        rest-is = halved mask k rest (v .rest-is);
-        ready = v .ready;
-        room = rw (turned-off t) at (v .room);
-        same = v .same;
-        whole = rw (turned-off t) at (v .whole);
-      }
-
-  pub inv-one : rest % 2 ≡ 1 → zero < s .deal .ring .count
-  inv-one t = omega (arith, v .room, ap length (turned-on t))
-
-  pub inv-on : rest % 2 ≡ 1 → Inv mask binary again d s₀ (dealOne binary again d k s) (rest / 2) (k + 1)
+  inv-dealt : (next : ℕ) → k < 20 → next ≡ headOr 20 (activeFrom (k + 1) mask) → Inv mask binary again d s₀ (dealOne binary again d k s) next
   unfolding dealOne dealAll
-  inv-on t =
-      let e = turned-on t in
-      let m = left-placed again d (placeNow s) (ready-good (v .ready)) (inv-one t) in
+  inv-dealt next h f =
+      let e = here h in
+      let m = left-placed again d (placeNow s) (ready-good (v .ready)) (inv-one h) in
       record {
+        j = k + 1;
         below = omega arith;
-        rest-is = halved mask k rest (v .rest-is);
+        first = f;
         ready = record { first = m .good .first-lt; count = m .good .count-le; enough = m .good .enough; small = v .ready .small };
         room = omega (arith, left-count again d (placeNow s), v .room, ap length e);
         same = m .same .long ∙ v .same;
         whole = rw e at (v .whole);
       }
 
-pub inv-start : (mask : ℕ) (binary again : Bool) (d : ℕ) (s : Dealing) → Ready d (s .deal .ring) (s .memory)
-    → length (activeFrom 0 mask) ≤ s .deal .ring .count → Inv mask binary again d s s mask 0
-inv-start mask binary again d s r h =
-    record { below = omega arith; rest-is = omega arith; ready = r; room = h; same = refl; whole = refl }
+  pub inv-turn : {s′ : Dealing} {next : ℕ} → k < 20 → s′ ≡ dealOne binary again d k s → next ≡ headOr 20 (activeFrom (k + 1) mask)
+      → Inv mask binary again d s₀ s′ next
+  inv-turn {s′} {next} h e f = subst (λ (x : Dealing). Inv mask binary again d s₀ x next) (sym e) (inv-dealt next h f)
 
-pub inv-end : (mask : ℕ) (binary again : Bool) (d : ℕ) (s₀ s : Dealing) (rest k : ℕ) → Inv mask binary again d s₀ s rest k → 20 ≤ k
-    → s ≡ dealAll binary again d (activeFrom 0 mask) s₀
-unfolding dealAll
-inv-end mask binary again d s₀ s rest k v h = rw (active-end k mask h) at (v .whole)
+  pub inv-end : 20 ≤ k → s ≡ dealAll binary again d (activeFrom 0 mask) s₀
+  unfolding dealAll
+  inv-end h = rw (head-none (v .j) mask (v .below) (rw (v .first) at h)) at (v .whole)

@@ -1,10 +1,10 @@
 -- What the functions' proofs cite; each file opens with what it shows.
 pub mod Rings
-pub mod Passing
 pub mod Heads
 pub mod Group
 pub mod Moving
 pub mod Dealt
 pub mod Standing
 pub mod Entries
+pub mod Sequential
 pub mod Unique

@@ -1,5 +1,5 @@
 -- Which channels a clock gives values to, and how many values it moves, by the tests of the code.
-use Prim.Native.Nat.{ℕ, _≤_, _<_}
+use Prim.Native.Nat.{ℕ, _+_, _≤_, _<_}
 use mathlib.Core.Path.{_≡_, refl}
 use mathlib.Core.Logic.{_≢_}
 use mathlib.Core.Bool.{true, false}
@@ -7,7 +7,7 @@ use mathlib.Core.List.{List, [], _∷_}
 use borrow.Author.Tests.{lt-ltb, le-ltb, ltb-false}
 use lib.ListN.{length}
 use Rattle.rules.specs.Bits.{activeFrom}
-use Rattle.rules.specs.Clocks.{nextChannel, targets, idle, moving}
+use Rattle.rules.specs.Clocks.{nextChannel, targets, cursorAfter, idle, moving}
 use Rattle.rules.proofs.Choice.{cases, cond-true, cond-false, or-left, or-right, or-neither, neither-or}
 use Rattle.rules.specs.declared.Core.{Core}
 
@@ -20,6 +20,11 @@ targets-simultaneous c h = cond-true _ _ _ h
 pub targets-sequential : (c : Core) → c .control .simultaneous ≡ false → targets c ≡ nextChannel c ∷ []
 unfolding targets
 targets-sequential c h = cond-false _ _ _ h
+
+-- the channel is the one below the cursor after it
+pub cursor-sequential : (c : Core) → c .control .simultaneous ≡ false → cursorAfter c ≡ nextChannel c + 1
+unfolding cursorAfter
+cursor-sequential c h = cond-false _ _ _ h
 
 -- ---- How many values
 

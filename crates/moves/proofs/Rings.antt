@@ -1,8 +1,9 @@
--- The ring of the stored values: its places lie below the depth, and what it holds after a value left.
-use Prim.Native.Nat.{ℕ, zero, suc, _%_, _≤_, _<_}
+-- The ring of the stored values: its places mod depth, and what it holds after a value left.
+use Prim.Native.Nat.{ℕ, zero, suc, _+_, _-_, _%_, _≤_, _<_}
+use mathlib.Core.Path.{_≡_, sym, _∙_}
 use mathlib.Core.Bool.{Bool, true, false, cond}
 use mathlib.Core.List.{List, _++_}
-use native.Mathlib.Nat.{mod-lt}
+use native.Mathlib.Nat.{mod-eq-of-lt, mod-eq-sub-mod}
 use native.Mathlib.Omega.{arith}
 use lib.ListN.{take, drop}
 use Rattle.rules.specs.Clocks.{leave, recirculate}
@@ -16,9 +17,9 @@ use Rattle.moves.specs.Deal.{left}
 pub ready-good : {d : ℕ} {r : Ring} {m : List ℕ} → Ready d r m → Good d (placeOf r m)
 ready-good h = record { first-lt = h .first; count-le = h .count; enough = h .enough }
 
--- the depth is not 0 where a ring has a first place
-pub place-below : {d : ℕ} {r : Ring} {m : List ℕ} → Ready d r m → (n : ℕ) → n % d < d
-place-below h n = mod-lt n (omega (arith, h .first))
+-- in the second lap, a lap less is the place
+pub lap-less : (x d : ℕ) → d ≤ x → x < d + d → x - d ≡ x % d
+lap-less x d h l = sym (mod-eq-sub-mod h ∙ mod-eq-of-lt (omega arith))
 
 -- ---- One value leaves, and is stored again or not
 

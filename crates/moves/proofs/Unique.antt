@@ -6,7 +6,7 @@ use Rattle.rules.specs.declared.Ring.{Ring}
 use Rattle.rules.specs.Clocks.{Play}
 use Rattle.moves.specs.declared.Played.{Played}
 use Rattle.moves.specs.Does.{Does}
-use Rattle.moves.specs.Unique.{Clocked-unique, Loaded-unique}
+use Rattle.moves.specs.Unique.{Clocked-unique, Loaded-unique, Takes-unique}
 
 determined {ℓ} : {A : Type ℓ} {x y z : A} → x ≡ z → y ≡ z → x ≡ y
 determined p q = p ∙ sym q
@@ -25,3 +25,6 @@ clocked-unique c ring d m r r′ n n′ p q = does-unique d _ ring m r r′ n n�
 
 pub loaded-unique : Loaded-unique
 loaded-unique c size ring d v m r r′ n n′ p q = does-unique d _ ring m r r′ n n′ (p .does) (q .does)
+
+pub takes-unique : Takes-unique
+takes-unique c ring d m r r′ n n′ p q = (determined (p .parts) (q .parts), determined (p .memory) (q .memory))

@@ -1,5 +1,6 @@
 pub mod Ready
 pub mod Does
 pub mod Deal
+pub mod Single
 pub mod Promises
 pub mod Unique

@@ -1,5 +1,6 @@
 -- The promises of the public functions: each fixes every outcome, the memory too.
 use Prim.Native.Nat.{ℕ}
+use mathlib.Core.Path.{_≡_}
 use mathlib.Core.Bool.{cond}
 use mathlib.Core.List.{List}
 use lib.Dec.{leb}
@@ -7,10 +8,13 @@ use lib.ListN.{length}
 use Rattle.rules.specs.declared.Core.{Core}
 use Rattle.rules.specs.declared.Ring.{Ring}
 use Rattle.moves.specs.declared.Played.{Played}
-use Rattle.rules.specs.Clocks.{only, clock}
+use Rattle.moves.specs.declared.Taken.{Taken}
+use Rattle.rules.specs.Clocks.{only, closed, clock}
 use Rattle.rules.specs.Writes.{writeData}
-use Rattle.moves.specs.Ready.{canClock, canLoad}
-use Rattle.moves.specs.Does.{Does, listed}
+use Rattle.moves.specs.Ready.{canClock, canLoad, canTake}
+use Rattle.moves.specs.Does.{Does, placeOf, listed}
+use Rattle.moves.specs.Deal.{left}
+use Rattle.moves.specs.Single.{takenOf, notTaken}
 
 -- an accepted clock; a core and a ring that do not fit the memory stay as they are
 pub record Clocked (c : Core) (ring : Ring) (d : ℕ) (m : List ℕ) (r : Played) (m′ : List ℕ) : Type 0 where
@@ -19,3 +23,8 @@ pub record Clocked (c : Core) (ring : Ring) (d : ℕ) (m : List ℕ) (r : Played
 -- a write of v to 18h; full is what holds the active size or more
 pub record Loaded (c : Core) (size : ℕ) (ring : Ring) (d v : ℕ) (m : List ℕ) (r : Played) (m′ : List ℕ) : Type 0 where
   pub does : Does d (cond (canLoad size ring d (length m)) (writeData c (leb size (ring .count)) v) (only c)) ring m r m′
+
+-- a clock of sequential mode, as the parts that it changes; where it moves nothing all is as it was
+pub record Takes (c : Core) (ring : Ring) (d : ℕ) (m : List ℕ) (r : Taken) (m′ : List ℕ) : Type 0 where
+  pub parts : r ≡ cond (canTake c ring d (length m)) (takenOf c ring d m) (notTaken c ring)
+  pub memory : m′ ≡ cond (canTake c ring d (length m)) ((left (closed c) d (placeOf ring m)) .memory) m

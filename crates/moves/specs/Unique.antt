@@ -5,7 +5,8 @@ use mathlib.Core.List.{List}
 use Rattle.rules.specs.declared.Core.{Core}
 use Rattle.rules.specs.declared.Ring.{Ring}
 use Rattle.moves.specs.declared.Played.{Played}
-use Rattle.moves.specs.Promises.{Clocked, Loaded}
+use Rattle.moves.specs.declared.Taken.{Taken}
+use Rattle.moves.specs.Promises.{Clocked, Loaded, Takes}
 
 abbrev pub Clocked-unique : Type 0
 Clocked-unique =
@@ -19,4 +20,11 @@ Loaded-unique =
     (c : Core) (size : ℕ) (ring : Ring) (d v : ℕ) (m : List ℕ) (r r′ : Played) (n n′ : List ℕ)
     → Loaded c size ring d v m r n
     → Loaded c size ring d v m r′ n′
+    → (r ≡ r′) × (n ≡ n′)
+
+abbrev pub Takes-unique : Type 0
+Takes-unique =
+    (c : Core) (ring : Ring) (d : ℕ) (m : List ℕ) (r r′ : Taken) (n n′ : List ℕ)
+    → Takes c ring d m r n
+    → Takes c ring d m r′ n′
     → (r ≡ r′) × (n ≡ n′)

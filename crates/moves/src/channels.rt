@@ -9,14 +9,11 @@ use rules::Core;
 // The lowest active channel from k up, 20 where there is none.
 pub(crate) fn lowest_from(mask: u32, k: u32) -> u32
     requires { ⌜ k ≤ 20 ⌝ }
-    ensures { λ r. ⌜ (r ≡ headOr 20 (activeFrom k mask)) × (r ≤ 20) ⌝ }
+    ensures { λ r. ⌜ (r ≡ headOr 20 (activeFrom k mask)) × (r ≤ 20) × (k ≤ r) ⌝ }
 {
-    let mut at = k;
-    while at < 20 {
-        if (mask >> at) % 2 == 1 {
-            return at;
-        }
-        at += 1;
+    let at = k + u32::trailing_zeros(mask >> k);
+    if at < 20 {
+        return at;
     }
     20
 }

@@ -41,7 +41,7 @@ pub(crate) fn moving(c: Core, n: u32) -> u32
 // 01: "the cursor becomes that channel + 1"; "the cursor stays 0"
 pub(crate) fn cursor_after(c: Core) -> u32
     requires { ⌜ c .outputs .cursor ≤ 20 ⌝ }
-    ensures { λ r. ⌜ r ≡ cursorAfter c ⌝ }
+    ensures { λ r. ⌜ (r ≡ cursorAfter c) × (r ≤ 20) ⌝ }
 {
     if c.control.simultaneous {
         return c.outputs.cursor;
@@ -76,11 +76,9 @@ pub(crate) fn load_after(ended: bool, x: Load) -> Load
 }
 
 // The core after values were dealt.
-pub(crate) fn clocked(c: Core, x: Deal) -> Core
-    requires { ⌜ c .outputs .cursor ≤ 20 ⌝ }
-    ensures { λ r. ⌜ r ≡ withBurst (burstAfter (x .ended) (c .burst)) (withLoad (loadAfter (x .ended) (c .load)) (withOutputs (record { mask = c .outputs .mask; cursor = cursorAfter c; levels = x .levels }) c)) ⌝ }
+pub(crate) fn clocked(c: Core, cursor: u32, x: Deal) -> Core
+    ensures { λ r. ⌜ r ≡ withBurst (burstAfter (x .ended) (c .burst)) (withLoad (loadAfter (x .ended) (c .load)) (withOutputs (record { mask = c .outputs .mask; cursor = cursor; levels = x .levels }) c)) ⌝ }
 {
-    let cursor = cursor_after(c);
     let levels = x.levels;
     let burst = c.burst;
     let load = c.load;
@@ -98,9 +96,16 @@ pub(crate) fn clocked(c: Core, x: Deal) -> Core
     k
 }
 
-// The values of one clock to their channels.
-pub(crate) fn deal(c: Core, ring: Ring, again: bool, d: u32, memory: &mut [u32]) -> Deal
-    requires { ⌜ Ready d ring (now memory) × Sober c × (length (targets c) ≤ ring .count) ⌝ }
+// The values of one clock to their channels. The one of sequential mode is just below the cursor after the clock: it is searched once.
+pub(crate) fn deal(
+    c: Core,
+    cursor: u32,
+    ring: Ring,
+    again: bool,
+    d: u32,
+    memory: &mut [u32],
+) -> Deal
+    requires { ⌜ Ready d ring (now memory) × (length (targets c) ≤ ring .count) × (cursor ≡ cursorAfter c) × (cursor ≤ 20) ⌝ }
     ensures { λ r. ⌜ record { deal = r; memory = now (memory .exit) } ≡ dealAll (c .control .binary) again d (targets c) (record { deal = record { levels = c .outputs .levels; ring = ring; ended = false }; memory = now (memory .entry) }) ⌝ }
 {
     let levels = c.outputs.levels;
@@ -113,7 +118,7 @@ pub(crate) fn deal(c: Core, ring: Ring, again: bool, d: u32, memory: &mut [u32])
     if c.control.simultaneous {
         return deal_group(x, c.outputs.mask, binary, again, d, memory);
     }
-    let k = next_channel(c) as usize;
+    let k = (cursor - 1) as usize;
     deal_one(x, k, binary, again, d, memory)
 }
 
@@ -131,8 +136,9 @@ pub(crate) fn run_clock(c: Core, ring: Ring, d: u32, memory: &mut [u32]) -> Play
             fate: 0,
         };
     }
-    let dealt = deal(c, ring, closed(c), d, memory);
-    let core = clocked(c, dealt);
+    let cursor = cursor_after(c);
+    let dealt = deal(c, cursor, ring, closed(c), d, memory);
+    let core = clocked(c, cursor, dealt);
     let left = dealt.ring;
     Played {
         core: core,

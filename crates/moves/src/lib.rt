@@ -1,11 +1,16 @@
 // The values that move: those that an accepted clock takes to the channels, and one that a load stores.
 // Every call takes every input. What each promises is in specs/Promises.antt.
-ghost use Rattle.moves.specs.Promises.{Clocked, Loaded};
+ghost use Rattle.moves.specs.Promises.{Clocked, Loaded, Takes};
 use crate::clocks::run_clock;
 use crate::loads::load_value;
 use crate::ready::can_clock;
 use crate::ready::can_load;
+use crate::ready::can_take;
+use crate::single::not_taken;
+use crate::single::taken;
+use rules::Burst;
 use rules::Core;
+use rules::Load;
 use rules::Ring;
 
 mod channels;
@@ -14,6 +19,7 @@ mod deal;
 mod loads;
 mod ready;
 mod ring;
+mod single;
 mod states;
 
 // What an event that is not refused did, with the stored values at their places.
@@ -22,6 +28,18 @@ pub struct Played {
     pub ring: Ring,
     pub moved: u32,
     pub fate: u32,
+}
+
+// What a clock of sequential mode that moves a value changes: the level of a channel, the cursor, and what an EOF ends. Where none is
+// moved the channel and the level are 0, and the rest is as it was.
+pub struct Taken {
+    pub moved: bool,
+    pub channel: usize,
+    pub level: u16,
+    pub cursor: u32,
+    pub burst: Burst,
+    pub load: Load,
+    pub ring: Ring,
 }
 
 // An accepted clock on a core and its ring, in a memory of which the first d values are the board's. Where the ring does not lie
@@ -54,4 +72,15 @@ pub fn load(c: Core, size: u32, ring: Ring, d: u32, v: u32, memory: &mut [u32]) 
         moved: 0,
         fate: 0,
     }
+}
+
+// An accepted clock that moves one value, in sequential mode, as the parts that it changes: what `clock` says, without the whole core.
+// Where the mode is another, or `clock` would move nothing, nothing moves.
+pub fn take(c: Core, ring: Ring, d: u32, memory: &mut [u32]) -> Taken
+    ensures { λ r. ⌜ Takes c ring d (now (memory .entry)) r (now (memory .exit)) ⌝ }
+{
+    if can_take(c, ring, d, memory.len()) {
+        return taken(c, ring, d, memory);
+    }
+    not_taken(c, ring)
 }

@@ -1,6 +1,7 @@
 // Whether a clock and a load have what they need.
 ghost use mathlib.Core.Path.{_≡_};
-ghost use Rattle.moves.specs.Ready.{fits, canClock, canLoad};
+ghost use Rattle.moves.specs.Ready.{fits, canClock, canLoad, canTake};
+use crate::states::idle;
 use rules::Core;
 use rules::Ring;
 
@@ -21,4 +22,10 @@ pub(crate) fn can_load(size: u32, r: Ring, d: u32, len: usize) -> bool
     ensures { λ x. ⌜ x ≡ canLoad size r d len ⌝ }
 {
     fits(r, d, len) & (size <= d)
+}
+
+pub(crate) fn can_take(c: Core, r: Ring, d: u32, len: usize) -> bool
+    ensures { λ x. ⌜ x ≡ canTake c r d len ⌝ }
+{
+    can_clock(c, r, d, len) & (!c.control.simultaneous & (!idle(c) & (0 < r.count)))
 }

@@ -1,5 +1,5 @@
-//! The proved model of the PC104P-16AO20 for hosts in Rust: a safe wrapper of `nergutsai_event` and
-//! `nergutsai_rate`.
+//! The proved model of the PC104P-16AO20 for hosts in Rust: a safe wrapper of `nergutsai_event`,
+//! `nergutsai_rate` and `nergutsai_list`.
 //!
 //! The archive libbridge.a is for Linux on x86-64.
 
@@ -126,6 +126,15 @@ extern "C" {
         figures: *mut u32,
         figures_length: usize,
     ) -> u32;
+
+    fn nergutsai_list(
+        file: *const u8,
+        file_length: usize,
+        memory: *mut u32,
+        memory_length: usize,
+        output: *mut u8,
+        output_length: usize,
+    ) -> usize;
 }
 
 /// The function itself, on numbers: answers 0, or why the call is not understood (hosts/c/nergutsai.h).
@@ -181,5 +190,29 @@ pub fn rate(record: &Record) -> Figures {
         refusal,
         reference,
         rate,
+    }
+}
+
+/// The room that `list` asks for a session file of so many bytes.
+pub fn room(file_length: usize) -> usize {
+    if file_length > 65_536 {
+        return 9;
+    }
+    160 + 22 * file_length
+}
+
+/// The listing of a session file on a board with this sample memory (16,384 values in `rehearse`): how many bytes of
+/// text now stand at the start of the output; 0 if it is shorter than `room` says, and then nothing was written.
+pub fn list(file: &[u8], memory: &mut [u32], output: &mut [u8]) -> usize {
+    // The borrows make the three slices valid and apart from each other, which is all that the function asks.
+    unsafe {
+        nergutsai_list(
+            file.as_ptr(),
+            file.len(),
+            memory.as_mut_ptr(),
+            memory.len(),
+            output.as_mut_ptr(),
+            output.len(),
+        )
     }
 }

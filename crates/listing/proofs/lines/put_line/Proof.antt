@@ -9,8 +9,8 @@ use Rattle.listing.proofs.Numbers.{decimal-long, field-long, hex-long}
 use Rattle.listing.proofs.lines.put_line.Statement.{statement}
 use Rattle.listing.proofs.lines.put_line.Tie as tie
 
-after-number : (c : tie.After-put-decimal) → c .put-decimal .result + 54 ≤ length (c .put-decimal .last .0)
-after-number c = room 10 54 (c .before .before .before .pre) (c .put-decimal .ensures) (decimal-long 9 _)
+after-number : (c : tie.After-put-long) → c .put-long .result + 54 ≤ length (c .put-long .last .0)
+after-number c = room 10 54 (c .before .before .before .pre) (c .put-long .ensures) (decimal-long 9 _)
 
 after-refusal : (c : tie.After-put-field) → c .put-field .result + 43 ≤ length (c .put-field .last .0)
 after-refusal c = room 11 43 (after-number (c .before .before .before .before)) (c .put-field .ensures) (field-long _)
@@ -18,8 +18,8 @@ after-refusal c = room 11 43 (after-number (c .before .before .before .before)) 
 after-space : (c : tie.After-put-byte) → c .put-byte .result + 42 ≤ length (c .put-byte .last .0)
 after-space c = room 1 42 (after-refusal (c .before .before .before .before)) (c .put-byte .ensures) (omega arith)
 
-after-register : (c : tie.After-put-hex) → c .put-hex .result + 34 ≤ length (c .put-hex .last .0)
-after-register c = room 8 34 (after-space (c .before .before .before .before)) (c .put-hex .ensures) (rw hex-long (omega arith))
+after-register : (c : tie.After-put-register) → c .put-register .result + 34 ≤ length (c .put-register .last .0)
+after-register c = room 8 34 (after-space (c .before .before .before .before)) (c .put-register .ensures) (rw hex-long (omega arith))
 
 after-moved : (c : tie.After-put-field2) → c .put-field2 .result + 23 ≤ length (c .put-field2 .last .0)
 after-moved c = room 11 23 (after-register (c .before .before .before .before)) (c .put-field2 .ensures) (field-long _)
@@ -30,8 +30,8 @@ after-fate c = room 11 12 (after-moved (c .before .before .before .before)) (c .
 after-count : (c : tie.After-put-field4) → c .put-field4 .result + 1 ≤ length (c .put-field4 .last .0)
 after-count c = room 11 1 (after-fate (c .before .before .before .before)) (c .put-field4 .ensures) (field-long _)
 
-put-decimal-requires : tie.Need-put-decimal-requires
-put-decimal-requires c κs = search needs
+put-long-requires : tie.Need-put-long-requires
+put-long-requires c κs = search needs
 
 put-field-requires : tie.Need-put-field-requires
 put-field-requires c κs = omega (arith, after-number (c .before .before .before))
@@ -39,8 +39,8 @@ put-field-requires c κs = omega (arith, after-number (c .before .before .before
 put-byte-requires : tie.Need-put-byte-requires
 put-byte-requires c κs = omega (arith, after-refusal (c .before .before .before))
 
-put-hex-requires : tie.Need-put-hex-requires
-put-hex-requires c κs = omega (arith, after-space (c .before .before .before))
+put-register-requires : tie.Need-put-register-requires
+put-register-requires c κs = omega (arith, after-space (c .before .before .before))
 
 put-field-requires-2 : tie.Need-put-field-requires-2
 put-field-requires-2 c κs = omega (arith, after-register (c .before .before .before))
@@ -65,8 +65,8 @@ returns c =
     let space = register .before .before .before .before in
     let refusal = space .before .before .before .before in
     let number = refusal .before .before .before .before in
-    let two = then (number .put-decimal .ensures) (refusal .put-field .ensures) in
-    let three = then two (then (space .put-byte .ensures) (register .put-hex .ensures)) in
+    let two = then (number .put-long .ensures) (refusal .put-field .ensures) in
+    let three = then two (then (space .put-byte .ensures) (register .put-register .ensures)) in
     then (then (then (then three (moved .put-field2 .ensures)) (fate .put-field3 .ensures)) (count .put-field4 .ensures)) (newline .put-byte2 .ensures)
 
 same-length : tie.Need-same-length
@@ -76,10 +76,10 @@ pub put-line-spec : {M : Type 1} → statement M
 put-line-spec =
     tie.close
     (tie.spec
-    put-decimal-requires
+    put-long-requires
     put-field-requires
     put-byte-requires
-    put-hex-requires
+    put-register-requires
     put-field-requires-2
     put-field-requires-3
     put-field-requires-4

@@ -1,31 +1,42 @@
--- At each turn there is room for what is left, and whoever writes that has written the whole (`Turn`).
-use Prim.Native.Nat.{_+_, _-_}
+-- At each turn there is room for what is left, and whoever writes that has written the whole (`Turn`); the board is one of a run (`Kept`).
+use Prim.Native.Nat.{ℕ, _+_, _-_}
 use mathlib.Core.Path.{_≡_, refl, sym, ap, subst, _∙_}
+use mathlib.Core.Bool.{Bool, false≢true}
+use mathlib.Core.List.{List}
 use native.Mathlib.Omega.{arith}
 use borrow.Author.Needs.{needs}
 use lib.ListN.{length}
+use Rattle.rules.specs.declared.Outputs.{Outputs}
+use Rattle.rules.specs.declared.Core.{Core}
+use Rattle.rules.specs.declared.Size.{Size}
+use Rattle.rules.specs.declared.Ring.{Ring}
 use Rattle.rules.specs.declared.Board.{Board}
-use Rattle.rules.specs.Record.{State}
+use Rattle.rules.specs.Record.{State, unpowered}
+use Rattle.rules.specs.Parts.{withOutputs}
 use Rattle.session.specs.File.{Session, session}
-use Rattle.session.proofs.Given.{item-exactly}
+use Rattle.session.proofs.Given.{item-exactly, item-grows}
 use Rattle.session.proofs.Sessions.{stands-within}
-use Rattle.run.specs.Promises.{stateOf}
-use Rattle.run.proofs.Turns.{was-played, was-ended}
-use Rattle.run.proofs.Leaving.{turn-less}
+use Rattle.board.specs.Promises.{Stepped}
 use Rattle.listing.specs.Listing.{listing, left}
+use Rattle.listing.specs.Shortcuts.{replyOf, stateOf, Kept}
 use Rattle.listing.proofs.Puts.{then, put-length}
-use Rattle.listing.proofs.Writing.{Turn, turn-start, tail-room, number-small, turn-line, turn-tail}
+use Rattle.listing.proofs.Writing.{Turn, turn-start, tail-room, number-small, turn-tail, turn-stepped}
 use Rattle.listing.proofs.Body.{in-reach}
 use Rattle.listing.proofs.whole.put_listing.Statement.{statement}
 use Rattle.listing.proofs.whole.put_listing.Tie as tie
 
+-- the board whose outputs are kept apart
+abbrev boardNow : Core → Outputs → Size → Bool → Ring → Board
+boardNow core outputs size request ring = record { core = withOutputs outputs core; size = size; request = request; ring = ring }
+
 abbrev Inv-loop : tie.InvT-loop
-Inv-loop s memory₀ out₀ at₀ b₀ c₀ number₀ memory out at b c number =
+Inv-loop s memory₀ out₀ at₀ core₀ outputs₀ size₀ request₀ ring₀ place₀ number₀ memory out at core outputs size request ring place number =
     (length memory ≡ length memory₀) × (length out ≡ length out₀)
-    × (x : Session) × Turn s memory₀ out₀ at₀ out at (stateOf b memory) (c .place) number x
+    × Kept (stateOf (boardNow core outputs size request ring) memory)
+    × (x : Session) × Turn s memory₀ out₀ at₀ out at (stateOf (boardNow core outputs size request ring) memory) place number x
 
 abbrev μ-loop : tie.MeasureT-loop
-μ-loop s memory₀ out₀ at₀ b₀ c₀ number₀ memory out at b c number = length s - c .place
+μ-loop s memory₀ out₀ at₀ core₀ outputs₀ size₀ request₀ ring₀ place₀ number₀ memory out at core outputs size request ring place number = length s - place
 
 put-heading-requires : tie.Need-put-heading-requires Inv-loop μ-loop
 put-heading-requires c κs = omega (arith, c .before .before .before .before .pre .1)
@@ -34,97 +45,140 @@ unpowered-requires : tie.Need-unpowered-requires Inv-loop μ-loop
 unpowered-requires c κs = tt
 
 loop-holds : tie.Need-loop-holds Inv-loop μ-loop
+unfolding unpowered
 loop-holds c =
-    let a = c .before .before .before .before .before .before .before .before .args in
-    let h = c .before .before .before .put-heading .ensures in
-    let o = c .before .before .before .put-heading .last .0 in
-    let at = c .before .before .before .put-heading .result in
-    let t = turn-start (a .s .now) (a .memory .now) o at (omega (arith, c .before .before .before .before .before .before .before .before .pre .1, put-length h, h .place)) in
-    let q = ap (λ (b : Board). stateOf b (a .memory .now)) (c .unpowered .ensures .board) in (
+    let a = c .before .before .before .before .before .before .before .before .before .before .before .before .args in
+    let h = c .before .before .before .before .before .before .before .put-heading in
+    let q = c .before .before .before .before .unpowered .ensures .board in
+    let t = turn-start (a .s .now) (a .memory .now) (h .last .0) (h .result) (omega (arith, c .before .before .before .before .before .before .before .before .before .before .before .before .pre .1, put-length (h .ensures), h .ensures .place)) in (
       refl,
       refl,
+      λ k. absurd (false≢true (sym (ap (λ (b : Board). b .core .powered) q) ∙ k)),
       session (a .s .now),
-      subst (λ (st : State). Turn (a .s .now) (a .memory .now) o at o at st 0 1 (session (a .s .now))) (sym q) t,
+      subst (λ (b : Board). Turn (a .s .now) (a .memory .now) (h .last .0) (h .result) (h .last .0) (h .result) (stateOf b (a .memory .now)) 0 1 (session (a .s .now))) (sym q) t,
     )
 
-advance-requires : tie.Need-advance-requires Inv-loop μ-loop
-advance-requires c κs = tt
+read-at-requires : tie.Need-read-at-requires Inv-loop μ-loop
+read-at-requires c κs = tt
 
-enum-known-progress : tie.Need-enum-known-progress Inv-loop μ-loop
-enum-known-progress c = search needs
+enum-known-item : tie.Need-enum-known-item Inv-loop μ-loop
+enum-known-item c = search needs
 
-put-line-requires : tie.Need-put-line-requires Inv-loop μ-loop
-put-line-requires c κs =
-    let l = c .before .before .before .before .before .before .before .before .before .loop in
-    omega (arith, tail-room _ _ _ _ _ _ _ _ _ _ (l .inv .3))
+whole-requires : tie.Need-whole-requires Inv-loop μ-loop
+whole-requires c κs = tt
+
+shortcut-requires : tie.Need-shortcut-requires Inv-loop μ-loop
+shortcut-requires c κs =
+    let l = c .before .before .before .before .before .before .loop in
+    rw (c .before .whole .ensures) (l .inv .2)
+
+mul-outputs : tie.Need-mul-outputs Inv-loop μ-loop
+mul-outputs c = omega (arith, c .before .before .before .shortcut .ensures .channel)
+
+element-write-outputs : tie.Need-element-write-outputs Inv-loop μ-loop
+element-write-outputs c = omega (arith, c .before .before .before .shortcut .ensures .channel)
+
+put-done-requires : tie.Need-put-done-requires Inv-loop μ-loop
+put-done-requires c κs = omega (arith, tail-room _ _ _ _ _ _ _ _ _ _ (c .before .before .before .before .before .before .before .before .before .before .before .before .before .before .loop .inv .4))
 
 add-number : tie.Need-add-number Inv-loop μ-loop
 add-number c =
-    let l = c .before .before .before .before .before .before .before .before .before .before .before .before .loop in
-    record { fits = omega (arith, number-small _ _ _ _ _ _ _ _ _ _ (l .inv .3) (c .before .before .before .before .before .before .before .before .before .before .before .before .before .before .before .before .before .before .before .before .before .pre .0)) }
+    record { fits = omega (arith, number-small _ _ _ _ _ _ _ _ _ _ (c .before .before .before .before .before .before .before .before .before .before .before .before .before .before .before .before .before .loop .inv .4) (c .before .before .before .before .before .before .before .before .before .before .before .before .before .before .before .before .before .before .before .before .before .before .before .before .before .before .before .before .before .before .pre .0)) }
 
 loop-less : tie.Need-loop-less Inv-loop μ-loop
 loop-less c =
-    let a = c .before .before .before .before .before .before .before .before .before .before .before .before .before .before .before .before .before .before .before .before .before .args in
-    let l = c .before .before .before .before .before .before .before .before .before .before .before .before .loop in
-    let st = stateOf (l .b) (l .memory) in
-    let r = c .before .before .before .before .before .before .before .before .before .before .advance .ensures in
-    let w = was-played (a .s .now) (l .c) st _ _ (sym (r .progress) ∙ c .before .before .before .before .before .progress .given .1) in
-    turn-less (a .s .now) (l .c .place) (w .0) _ (w .1 .stood)
+    let a = c .before .before .before .before .before .before .before .before .before .before .before .before .before .before .before .before .before .before .before .before .before .before .before .before .before .before .before .before .before .before .args in
+    let l = c .before .before .before .before .before .before .before .before .before .before .before .before .before .before .before .before .before .loop in
+    let i = c .before .before .before .before .before .before .before .before .before .before .before .before .before .before .item .given in
+    let stood = sym (c .before .before .before .before .before .before .before .before .before .before .before .before .before .before .before .before .read-at .ensures .told) ∙ i .1 in
+    omega (arith, item-grows (a .s .now) (l .place) (i .0 .0) _ stood)
 
 loop-again : tie.Need-loop-again Inv-loop μ-loop
 loop-again c =
-    let a = c .before .before .before .before .before .before .before .before .before .before .before .before .before .before .before .before .before .before .before .before .before .args in
-    let l = c .before .before .before .before .before .before .before .before .before .before .before .before .loop in
-    let st = stateOf (l .b) (l .memory) in
-    let r = c .before .before .before .before .before .before .before .before .before .before .advance .ensures in
-    let put = c .before .before .put-line in
-    let h = c .before .before .before .before .before .before .before .before .before .before .before .before .before .before .before .before .put-heading in
-    let w = was-played (a .s .now) (l .c) st _ _ (sym (r .progress) ∙ c .before .before .before .before .before .progress .given .1) in
-    let q = (λ i. stateOf (r .board i) (r .memory i)) ∙ w .1 .state in
-    let next = c .before .before .before .before .before .progress .given .0 .1 .0 .place in
-    let t = turn-line (a .s .now) (a .memory .now) (h .last .0) (h .result) (l .out) (l .at) st (l .c .place) (l .number) (l .inv .2) (l .inv .3)
-    (w .0) next _ _ (put .last .0) (put .result) (w .1 .stood) (w .1 .answer) (ap (λ (x : State). x .board .ring .count) q) (put .ensures) in (
-      c .before .before .before .before .before .before .before .before .before .before .advance .kept .1 .1 .1 .0 ∙ l .inv .0,
-      put .kept .0 ∙ l .inv .1,
-      t .0,
-      subst (λ (x : State). Turn (a .s .now) (a .memory .now) (h .last .0) (h .result) (put .last .0) (put .result) x next (l .number + 1) (t .0)) (sym q) (t .1),
-    )
+    let a = c .before .before .before .before .before .before .before .before .before .before .before .before .before .before .before .before .before .before .before .before .before .before .before .before .before .before .before .before .before .before .args in
+    let h = c .before .before .before .before .before .before .before .before .before .before .before .before .before .before .before .before .before .before .before .before .before .before .before .before .before .put-heading in
+    let l = c .before .before .before .before .before .before .before .before .before .before .before .before .before .before .before .before .before .loop in
+    let i = c .before .before .before .before .before .before .before .before .before .before .before .before .before .before .item .given in
+    let stood = sym (c .before .before .before .before .before .before .before .before .before .before .before .before .before .before .before .before .read-at .ensures .told) ∙ i .1 in
+    let cut = c .before .before .before .before .before .before .before .before .before .before .shortcut in
+    let b = boardNow (l .core) (l .outputs) (l .size) (l .request) (l .ring) in
+    let w = subst (λ (x : Board). Stepped x (l .memory) (i .0 .0) (replyOf x (cut .result)) (cut .last .1 .0)) (c .before .before .before .before .before .before .before .before .before .before .before .before .whole .ensures)
+    (cut .ensures .stepped (c .before .before .before .before .before .before .before .if1 .taken)) in
+    let put = c .before .before .put-done in
+    let t = turn-stepped (a .s .now) (a .memory .now) (h .last .0) (h .result) (l .out) (l .at) b (l .memory) (l .place) (l .number) (l .inv .3) (l .inv .4) (l .inv .2)
+    (i .0 .0) _ _ _ _ _ stood w (put .ensures) in
+    (cut .kept .1 .0 ∙ l .inv .0, put .kept .0 ∙ l .inv .1, t .0, t .1, t .2)
 
-enum-known-progress-2 : tie.Need-enum-known-progress-2 Inv-loop μ-loop
-enum-known-progress-2 c = search needs
+whole-requires-2 : tie.Need-whole-requires-2 Inv-loop μ-loop
+whole-requires-2 c κs = tt
+
+step-requires : tie.Need-step-requires Inv-loop μ-loop
+step-requires c κs = tt
+
+put-line-requires : tie.Need-put-line-requires Inv-loop μ-loop
+put-line-requires c κs = omega (arith, tail-room _ _ _ _ _ _ _ _ _ _ (c .before .before .before .before .before .before .before .before .before .before .before .before .before .before .before .before .before .before .before .before .before .before .loop .inv .4))
+
+add-number-2 : tie.Need-add-number-2 Inv-loop μ-loop
+add-number-2 c =
+    record { fits = omega (arith, number-small _ _ _ _ _ _ _ _ _ _ (c .before .before .before .before .before .before .before .before .before .before .before .before .before .before .before .before .before .before .before .before .before .before .before .before .before .loop .inv .4) (c .before .before .before .before .before .before .before .before .before .before .before .before .before .before .before .before .before .before .before .before .before .before .before .before .before .before .before .before .before .before .before .before .before .before .before .before .before .before .pre .0)) }
+
+loop-less-2 : tie.Need-loop-less-2 Inv-loop μ-loop
+loop-less-2 c =
+    let a = c .before .before .before .before .before .before .before .before .before .before .before .before .before .before .before .before .before .before .before .before .before .before .before .before .before .before .before .before .before .before .before .before .before .before .before .before .before .before .args in
+    let l = c .before .before .before .before .before .before .before .before .before .before .before .before .before .before .before .before .before .before .before .before .before .before .before .before .before .loop in
+    let i = c .before .before .before .before .before .before .before .before .before .before .before .before .before .before .before .before .before .before .before .before .before .before .item .given in
+    let stood = sym (c .before .before .before .before .before .before .before .before .before .before .before .before .before .before .before .before .before .before .before .before .before .before .before .before .read-at .ensures .told) ∙ i .1 in
+    omega (arith, item-grows (a .s .now) (l .place) (i .0 .0) _ stood)
+
+loop-again-2 : tie.Need-loop-again-2 Inv-loop μ-loop
+loop-again-2 c =
+    let a = c .before .before .before .before .before .before .before .before .before .before .before .before .before .before .before .before .before .before .before .before .before .before .before .before .before .before .before .before .before .before .before .before .before .before .before .before .before .before .args in
+    let h = c .before .before .before .before .before .before .before .before .before .before .before .before .before .before .before .before .before .before .before .before .before .before .before .before .before .before .before .before .before .before .before .before .before .put-heading in
+    let l = c .before .before .before .before .before .before .before .before .before .before .before .before .before .before .before .before .before .before .before .before .before .before .before .before .before .loop in
+    let i = c .before .before .before .before .before .before .before .before .before .before .before .before .before .before .before .before .before .before .before .before .before .before .item .given in
+    let stood = sym (c .before .before .before .before .before .before .before .before .before .before .before .before .before .before .before .before .before .before .before .before .before .before .before .before .read-at .ensures .told) ∙ i .1 in
+    let cut = c .before .before .before .before .before .before .before .before .before .before .before .before .before .before .before .before .before .before .shortcut in
+    let stepped = c .before .before .before .before .before .before .before .before .before .before .before .before .step in
+    let b = boardNow (l .core) (l .outputs) (l .size) (l .request) (l .ring) in
+    let same = cut .ensures .left (c .before .before .before .before .before .before .before .before .before .before .before .before .before .before .before .if1 .left) in
+    let w = subst (λ (x : Board). Stepped x (l .memory) (i .0 .0) (stepped .result) (stepped .last .1 .0)) (c .before .before .before .before .before .before .before .before .before .before .before .before .before .before .whole2 .ensures)
+    (subst (λ (m : List ℕ). Stepped (c .before .before .before .before .before .before .before .before .before .before .before .before .before .before .whole2 .result) m (i .0 .0) (stepped .result) (stepped .last .1 .0)) same (stepped .ensures)) in
+    let put = c .before .before .put-line in
+    let t = turn-stepped (a .s .now) (a .memory .now) (h .last .0) (h .result) (l .out) (l .at) b (l .memory) (l .place) (l .number) (l .inv .3) (l .inv .4) (l .inv .2)
+    (i .0 .0) _ _ _ _ _ stood w (put .ensures) in
+    (stepped .kept .1 .0 ∙ cut .kept .1 .0 ∙ l .inv .0, put .kept .0 ∙ l .inv .1, t .0, t .1, t .2)
+
+enum-known-item-2 : tie.Need-enum-known-item-2 Inv-loop μ-loop
+enum-known-item-2 c = search needs
 
 put-tail-requires : tie.Need-put-tail-requires Inv-loop μ-loop
 put-tail-requires c κs =
     let a = c .before .before .before .before .before .before .before .before .before .before .before .before .before .before .before .before .before .before .before .args in
-    let l = c .before .before .before .before .before .before .before .before .before .before .loop in
-    let st = stateOf (l .b) (l .memory) in
-    let r = c .before .before .before .before .before .before .before .before .advance .ensures in
-    let w = was-ended (a .s .now) (l .c) st _ (sym (r .progress) ∙ c .before .before .before .progress2 .given .1) in (
-      tail-room _ _ _ _ _ _ _ _ _ _ (l .inv .3),
-      in-reach (a .s .now) (c .before .before .before .progress2 .given .0 .0) (c .before .before .before .before .before .before .before .before .before .before .before .before .before .before .before .before .before .before .before .pre .0) (stands-within (a .s .now) (l .c .place) _ (item-exactly (a .s .now) (l .c .place) _ .0 (w .0))),
+    let l = c .before .before .before .before .before .before .loop in
+    let i = c .before .before .before .item2 .given in
+    let stood = sym (c .before .before .before .before .before .read-at .ensures .told) ∙ i .1 in (
+      tail-room _ _ _ _ _ _ _ _ _ _ (l .inv .4),
+      in-reach (a .s .now) (i .0 .0) (c .before .before .before .before .before .before .before .before .before .before .before .before .before .before .before .before .before .before .before .pre .0) (stands-within (a .s .now) (l .place) _ (item-exactly (a .s .now) (l .place) _ .0 stood)),
     )
 
 same-length : tie.Need-same-length Inv-loop μ-loop
-same-length c = c .before .before .before .before .before .before .before .before .before .before .before .advance .kept .1 .1 .1 .0 ∙ c .before .before .before .before .before .before .before .before .before .before .before .before .before .loop .inv .0
+same-length c = c .before .before .before .before .before .before .before .before .before .loop .inv .0
 
 same-length-2 : tie.Need-same-length-2 Inv-loop μ-loop
-same-length-2 c = c .before .before .put-tail .kept .0 ∙ c .before .before .before .before .before .before .before .before .before .before .before .before .before .loop .inv .1 ∙ c .before .before .before .before .before .before .before .before .before .before .before .before .before .before .before .before .before .put-heading .kept .0
+same-length-2 c = c .before .before .put-tail .kept .0 ∙ c .before .before .before .before .before .before .before .before .before .loop .inv .1 ∙ c .before .before .before .before .before .before .before .before .before .before .before .before .before .before .before .before .before .put-heading .kept .0
 
 returns : tie.Need-returns Inv-loop μ-loop
 unfolding listing left
 returns c =
     let a = c .before .before .before .before .before .before .before .before .before .before .before .before .before .before .before .before .before .before .before .before .before .before .args in
-    let l = c .before .before .before .before .before .before .before .before .before .before .before .before .before .loop in
-    let st = stateOf (l .b) (l .memory) in
-    let r = c .before .before .before .before .before .before .before .before .before .before .before .advance .ensures in
+    let l = c .before .before .before .before .before .before .before .before .before .loop in
+    let i = c .before .before .before .before .before .before .item2 .given in
+    let stood = sym (c .before .before .before .before .before .before .before .before .read-at .ensures .told) ∙ i .1 in
     let h = c .before .before .before .before .before .before .before .before .before .before .before .before .before .before .before .before .before .put-heading in
     let put = c .before .before .put-tail in
-    let w = was-ended (a .s .now) (l .c) st _ (sym (r .progress) ∙ c .before .before .before .before .before .before .progress2 .given .1) in
-    let q = (λ i. stateOf (r .board i) (r .memory i)) ∙ w .1 in
-    let t = turn-tail (a .s .now) (a .memory .now) (h .last .0) (h .result) (l .out) (l .at) st (l .c .place) (l .number) (l .inv .2) (l .inv .3)
-    _ _ (put .last .0) (put .result) (w .0) (ap (λ (x : State). x .board .core .outputs .levels) q) (put .ensures) in
-    (then (h .ensures) (t .0), ap (λ (x : State). x .memory) (q ∙ t .1))
+    let t = turn-tail (a .s .now) (a .memory .now) (h .last .0) (h .result) (l .out) (l .at) _ (l .place) (l .number) (l .inv .3) (l .inv .4)
+    _ _ (put .last .0) (put .result) stood refl (put .ensures) in
+    (then (h .ensures) (t .0), ap (λ (x : State). x .memory) (t .1))
 
 pub put-listing-spec : {M : Type 1} → statement M
 put-listing-spec =
@@ -135,13 +189,23 @@ put-listing-spec =
     put-heading-requires
     unpowered-requires
     loop-holds
-    advance-requires
-    enum-known-progress
-    put-line-requires
+    read-at-requires
+    enum-known-item
+    whole-requires
+    shortcut-requires
+    mul-outputs
+    element-write-outputs
+    put-done-requires
     add-number
     loop-less
     loop-again
-    enum-known-progress-2
+    whole-requires-2
+    step-requires
+    put-line-requires
+    add-number-2
+    loop-less-2
+    loop-again-2
+    enum-known-item-2
     put-tail-requires
     same-length
     same-length-2

@@ -1,14 +1,16 @@
 use Prim.Native.Nat.{ℕ, _+_}
 use mathlib.Core.Path.{sym, ap, _∙_}
+use native.Mathlib.Omega.{arith}
 use borrow.Author.Needs.{needs}
 use Rattle.rules.specs.Clocks.{cursorAfter}
-use Rattle.rules.proofs.Choice.{cond-true, cond-false}
+use Rattle.rules.proofs.Choice.{cond-true}
+use Rattle.moves.proofs.Moving.{cursor-sequential}
 use Rattle.moves.proofs.clocks.cursor_after.Statement.{statement}
 use Rattle.moves.proofs.clocks.cursor_after.Tie as tie
 
 returns : tie.Need-returns
 unfolding cursorAfter
-returns c = sym (cond-true _ _ _ (c .if1 .taken))
+returns c = (sym (cond-true _ _ _ (c .if1 .taken)), c .before .pre)
 
 next-channel-requires : tie.Need-next-channel-requires
 next-channel-requires c κs = search needs
@@ -17,8 +19,8 @@ add-result : tie.Need-add-result
 add-result c = search needs
 
 returns-2 : tie.Need-returns-2
-unfolding cursorAfter
-returns-2 c = ap (λ (k : ℕ). k + 1) (c .next-channel .ensures .0) ∙ sym (cond-false _ _ _ (c .before .if1 .left))
+returns-2 c =
+    (ap (λ (k : ℕ). k + 1) (c .next-channel .ensures .0) ∙ sym (cursor-sequential (c .before .before .args .c) (c .before .if1 .left)), omega arith)
 
 pub cursor-after-spec : {M : Type 1} → statement M
 cursor-after-spec = tie.close (tie.spec returns next-channel-requires add-result returns-2)

@@ -1,25 +1,25 @@
 -- The place after the last value lies below the depth, and so in the memory.
-use Prim.Native.Nat.{_+_}
-use native.Mathlib.Omega.{arith}
+use Prim.Native.Nat.{ℕ}
+use mathlib.Core.Path.{refl, ap}
+use lib.ListN.{set}
 use borrow.Author.Needs.{needs}
-use Rattle.moves.proofs.Rings.{place-below}
 use Rattle.moves.proofs.ring.put.Statement.{statement}
 use Rattle.moves.proofs.ring.put.Tie as tie
 
-add-at : tie.Need-add-at
-add-at c = search needs
+add-wrapped : tie.Need-add-wrapped
+add-wrapped c = search needs
 
-rem-at : tie.Need-rem-at
-rem-at c = search needs
+wrapped-requires : tie.Need-wrapped-requires
+wrapped-requires c κs = search needs
 
 cast-at : tie.Need-cast-at
-cast-at c = let a = c .before .args in omega (arith, place-below (c .before .pre .0) (a .r .first + a .r .count))
+cast-at c = search needs
 
 mul-memory : tie.Need-mul-memory
-mul-memory c = let a = c .before .args in omega (arith, place-below (c .before .pre .0) (a .r .first + a .r .count))
+mul-memory c = search needs
 
 slice-write-memory : tie.Need-slice-write-memory
-slice-write-memory c = let a = c .before .args in omega (arith, place-below (c .before .pre .0) (a .r .first + a .r .count))
+slice-write-memory c = search needs
 
 add-t6 : tie.Need-add-t6
 add-t6 c = search needs
@@ -28,9 +28,19 @@ same-length : tie.Need-same-length
 same-length c = search needs
 
 returns : tie.Need-returns
-returns c = search needs
+returns c =
+    let a = c .before .before .before .before .args in
+    (refl, ap (λ (at : ℕ). set (a .memory .now) at (a .v)) (c .before .wrapped .ensures .0))
 
 pub put-spec : {M : Type 1} → statement M
 put-spec =
     tie.close
-    (tie.spec add-at rem-at cast-at mul-memory slice-write-memory add-t6 same-length returns)
+    (tie.spec
+    add-wrapped
+    wrapped-requires
+    cast-at
+    mul-memory
+    slice-write-memory
+    add-t6
+    same-length
+    returns)

@@ -1,0 +1,146 @@
+//! Replays four sessions many times in one process, through the proved code and through the same model written in Rust for
+//! speed, and prints how many events a second each takes and the ratio of their times.
+
+mod sessions;
+
+use std::hint::black_box;
+use std::process::exit;
+use std::time::{Duration, Instant};
+
+const HELP: &str = "\
+bench - the proved listing of whole sessions against the same in Rust
+
+usage: bench [--rounds N] [--only NAME] [--help]
+
+  --rounds N     replay each session N times on each side, in turns, and take the
+                 best (default 2000)
+  --only NAME    only this session: streaming, circular, simultaneous or random
+  --ours         only the proved side and no table, for a profiler
+  --help         this text
+
+A ratio is the time of the proved code over that of Rust's: 1.0 is as fast, less is
+faster. The two listings of each session are compared first.
+Exit status: 0 measured, 1 the listings differ, 2 wrong usage.
+";
+
+/// The sample memory of `rehearse`.
+const MEMORY: usize = 16_384;
+
+struct Options {
+    rounds: u32,
+    only: Option<String>,
+    ours: bool,
+}
+
+fn main() {
+    let options = match options() {
+        Ok(options) => options,
+        Err(text) => {
+            eprintln!("{text}\n(`bench/run --help` tells more)");
+            exit(2);
+        }
+    };
+    let mut chosen = sessions::all();
+    if let Some(name) = &options.only {
+        chosen.retain(|session| session.name == name);
+        if chosen.is_empty() {
+            eprintln!("--only: there is no session `{name}`\n(`bench/run --help` tells more)");
+            exit(2);
+        }
+    }
+    if options.ours {
+        for session in &chosen {
+            let mut ours = Ours::new(&session.file);
+            for _ in 0..options.rounds {
+                ours.list(&session.file);
+            }
+        }
+        return;
+    }
+    println!("session         events   Rust, events/s   proved, events/s   ratio");
+    for session in &chosen {
+        measure(session.name, &session.file, options.rounds);
+    }
+}
+
+fn options() -> Result<Options, String> {
+    let mut options = Options {
+        rounds: 2_000,
+        only: None,
+        ours: false,
+    };
+    let mut given = std::env::args().skip(1);
+    while let Some(option) = given.next() {
+        let mut word = || given.next().ok_or(format!("{option}: a word is missing"));
+        match option.as_str() {
+            "--rounds" => {
+                let text = word()?;
+                options.rounds = match text.parse() {
+                    Ok(rounds) if rounds > 0 => rounds,
+                    _ => return Err(format!("--rounds: `{text}` is not a number from 1")),
+                };
+            }
+            "--only" => options.only = Some(word()?),
+            "--ours" => options.ours = true,
+            "--help" | "-h" => {
+                print!("{HELP}");
+                exit(0);
+            }
+            _ => return Err(format!("`{option}` is not an option")),
+        }
+    }
+    Ok(options)
+}
+
+/// The proved side: its memory and its output, lent anew at every replay.
+struct Ours {
+    memory: Vec<u32>,
+    output: Vec<u8>,
+}
+
+impl Ours {
+    fn new(file: &[u8]) -> Ours {
+        Ours {
+            memory: vec![0; MEMORY],
+            output: vec![0; nergutsai::room(file.len())],
+        }
+    }
+
+    fn list(&mut self, file: &[u8]) -> usize {
+        nergutsai::list(black_box(file), &mut self.memory, &mut self.output)
+    }
+}
+
+fn measure(name: &str, file: &[u8], rounds: u32) {
+    let mut ours = Ours::new(file);
+    let length = ours.list(file);
+    let mut memory = vec![0; MEMORY];
+    let mut theirs = Vec::new();
+    swift::list(file, &mut memory, &mut theirs);
+    if theirs != ours.output[..length] {
+        eprintln!("{name}: the two listings differ");
+        exit(1);
+    }
+    // All lines but the heading and the levels are records.
+    let events = theirs.iter().filter(|byte| **byte == b'\n').count() - 2;
+
+    let mut best_ours = Duration::MAX;
+    let mut best_theirs = Duration::MAX;
+    for _ in 0..rounds {
+        let start = Instant::now();
+        swift::list(black_box(file), &mut memory, &mut theirs);
+        best_theirs = best_theirs.min(start.elapsed());
+        black_box(&theirs);
+        let start = Instant::now();
+        black_box(ours.list(file));
+        best_ours = best_ours.min(start.elapsed());
+        black_box(&ours.output);
+    }
+    let rate = |time: Duration| events as f64 / time.as_secs_f64();
+    println!(
+        "{name:<14} {events:>7} {:>16.0} {:>18.0} {:>7.2}",
+        rate(best_theirs),
+        rate(best_ours),
+        best_ours.as_secs_f64() / best_theirs.as_secs_f64()
+    );
+}

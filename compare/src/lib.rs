@@ -1,0 +1,15 @@
+//! What the three programs share: records, events and answers as numbers, the
+//! second model behind them, random sessions, and session files. Nothing here
+//! needs libbridge.a.
+
+pub mod crc;
+pub mod damage;
+pub mod fields;
+pub mod file;
+pub mod files;
+pub mod generate;
+pub mod hex;
+pub mod model;
+pub mod process;
+pub mod rng;
+pub mod words;

@@ -1,0 +1,30 @@
+-- What the listing promises, as bytes of text.
+use Prim.Native.Nat.{ℕ}
+use mathlib.Core.Path.{_≡_, refl, sym, ap, _∙_}
+use mathlib.Core.Bool.{Bool, true, false, cond}
+use mathlib.Core.List.{List}
+use lib.Dec.{ltb}
+use lib.ListN.{length}
+use Rattle.listing.specs.declared.Listed.{Listed}
+use Rattle.listing.specs.declared.Listed.the-variants.{Text, Short}
+use Rattle.listing.specs.Listing.{text, room}
+use Rattle.listing.specs.Promises.{Lists}
+use Rattle.bridge.specs.Promises.{ListCalled}
+
+unfoldable pub bytesOf : Listed → ℕ
+bytesOf (Text n) = n
+bytesOf (Short n) = 0
+
+bytes-cond : (t : Bool) (k n : ℕ) → bytesOf (cond t (Short k) (Text n)) ≡ cond t 0 n
+unfolding bytesOf
+bytes-cond true k n = refl
+bytes-cond false k n = refl
+
+pub list-called : (s m out : List ℕ) (r : Listed) (n : ℕ) (m′ out′ : List ℕ)
+    → Lists s m out r m′ out′ → bytesOf r ≡ n → ListCalled s m out n m′ out′
+list-called s m out r n m′ out′ x e =
+    record {
+      answer = sym e ∙ ap bytesOf (x .answer) ∙ bytes-cond (ltb (length out) (room (length s))) (room (length s)) (length (text s m));
+      memory = x .memory;
+      output = x .output;
+    }
