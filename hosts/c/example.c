@@ -46,5 +46,11 @@ int main(void)
         figures[NERGUTSAI_RATE_REFUSAL], figures[NERGUTSAI_REFERENCE], figures[NERGUTSAI_RATE]);
     for (int channel = 0; channel < 6; channel++)
         printf("channel %d: %04" PRIX32 "\n", channel, record[NERGUTSAI_LEVELS + channel]);
+
+    /* A session file: a power-up, and a record that is cut. */
+    static const uint8_t file[] = {0x01, 0x00, 0x07, 0x01, 0x00, 0x01, 0x00, 0x00, 0x00, 0x10, 0x00};
+    uint8_t text[NERGUTSAI_ROOM(sizeof file)];
+    size_t length = nergutsai_list(file, sizeof file, memory, 8, text, sizeof text);
+    fwrite(text, 1, length, stdout);
     return 0;
 }

@@ -1,9 +1,6 @@
 -- The promise says what every part of the outcome equals: two that do are equal.
-use mathlib.Core.Path.{_≡_, sym, _∙_}
+use Rattle.rules.proofs.Equal.{determined}
 use Rattle.board.specs.Unique.{Stepped-unique}
-
-determined {ℓ} : {A : Type ℓ} {x y z : A} → x ≡ z → y ≡ z → x ≡ y
-determined p q = p ∙ sym q
 
 pub stepped-unique : Stepped-unique
 stepped-unique b m e r r′ n n′ p q =

@@ -2,10 +2,10 @@
 use Prim.Native.Nat.{ℕ, _%_, _≤_, _<_}
 use mathlib.Core.Path.{_≡_, refl, sym, ap, subst, _∙_}
 use mathlib.Core.Bool.{Bool, true, false, not, cond, _&&_, true≢false, false≢true}
-use mathlib.Core.List.{List}
+use mathlib.Core.List.{List, [], _∷_}
 use native.Mathlib.Nat.{min-eq-right, le-refl}
 use native.Mathlib.Omega.{arith}
-use borrow.Author.Tests.{eqb-true, leb-true, ltb-true, not-true, lt-leb}
+use borrow.Author.Tests.{eqb-true, eqb-false, leb-true, ltb-true, not-true, not-false, lt-leb}
 use lib.Dec.{eqb, leb, ltb}
 use lib.ListN.{length, getD, set}
 use lib.Seq.{set-getD}
@@ -18,7 +18,7 @@ use Rattle.rules.specs.declared.Core.{Core}
 use Rattle.rules.specs.declared.Board.{Board}
 use Rattle.rules.specs.Record.{State, valueSpan, depthOf, depth, activeSize, stored}
 use Rattle.rules.specs.Parts.{withOutputs}
-use Rattle.rules.specs.Clocks.{Play, store, closed, tickAccepted, clock, onTick, fateNumber}
+use Rattle.rules.specs.Clocks.{Play, store, closed, targets, tickAccepted, clock, onTick, fateNumber}
 use Rattle.rules.specs.Clocks.{stored as storedFate}
 use Rattle.rules.specs.Flags.{isFull}
 use Rattle.rules.specs.Writes.{writeData, onWrite}
@@ -35,16 +35,19 @@ use Rattle.rules.proofs.Lasting.{done-stands, up-stands, next-below}
 use Rattle.rules.proofs.Refusals.{refusal-exactly, refusal-stands}
 use Rattle.moves.specs.declared.Played.{Played}
 use Rattle.moves.specs.declared.Taken.{Taken}
-use Rattle.moves.specs.Ready.{canTake}
+use Rattle.moves.specs.declared.GroupTaken.{GroupTaken}
+use Rattle.moves.specs.Ready.{canTake, canTakeGroup}
 use Rattle.moves.specs.Does.{Does, placeOf, listed}
-use Rattle.moves.specs.Deal.{left}
+use Rattle.moves.specs.Deal.{Dealing, left, dealAll}
 use Rattle.moves.specs.Single.{takenOf, notTaken}
-use Rattle.moves.specs.Promises.{Takes as TakesOne}
-use Rattle.moves.proofs.Sequential.{taken-does}
+use Rattle.moves.specs.Group.{groupOf, groupMemory, noGroup}
+use Rattle.moves.specs.Promises.{Takes as TakesOne, TakesGroup}
+use Rattle.moves.proofs.AsParts.{taken-does, all-move, group-does}
 use Rattle.board.specs.Promises.{Stepped}
 use Rattle.board.proofs.Whole.{done-stepped}
 use Rattle.listing.specs.declared.shortcuts.Change.{Change}
-use Rattle.listing.specs.Shortcuts.{signalKind, kindOf, valueOf, takes, ticks, Kept, Done}
+use Rattle.listing.specs.declared.shortcuts.GroupChange.{GroupChange}
+use Rattle.listing.specs.Shortcuts.{signalKind, kindOf, valueOf, takes, ticks, Kept, Done, DoneGroup}
 
 -- ---- The states of a run
 
@@ -59,6 +62,9 @@ kept-step s (signal x) k = step-cases (λ (o : Outcome). Kept (o .state)) s (sig
 
 pub not-done : {b : Board} {m : List ℕ} {e : Event} {r : Change} → (r .done ≡ false) × (r .channel < 20) → Done b m e r m
 not-done h = record { stepped = λ z. absurd (false≢true (sym (h .0) ∙ z)); left = λ _. refl; channel = h .1 }
+
+pub group-not-done : {b : Board} {m : List ℕ} {e : Event} {r : GroupChange} → r .done ≡ false → DoneGroup b m e r m
+group-not-done h = record { stepped = λ z. absurd (false≢true (sym h ∙ z)); left = λ _. refl }
 
 -- ---- Which event it is
 
@@ -276,4 +282,42 @@ module _ (s : State) (d : ℕ) (st : Stands s) (e : d ≡ depth (s .board)) (t :
             stepped = λ z. absurd (false≢true (sym (ap (λ (y : Taken). y .moved) p) ∙ z));
             left = λ _. x .memory ∙ cond-false _ _ _ h;
             channel = rw p (omega arith);
+          }
+
+  -- ---- A group
+
+  abbrev groupChangeOf : GroupTaken → GroupChange
+  groupChangeOf r = record { done = not (eqb (r .moved) 0); moved = r .moved; levels = r .levels; burst = r .burst; load = r .load; ring = r .ring }
+
+  -- a group of no channels moves nothing
+  none-dealt : (ks : List ℕ) (x : Dealing) → length ks ≡ 0 → dealAll (s .board .core .control .binary) (closed (s .board .core)) d ks x ≡ x
+  unfolding dealAll
+  none-dealt [] x h = refl
+  none-dealt (k ∷ ks) x h = absurd (omega arith)
+
+  pub group-done : (r : GroupTaken) (m′ : List ℕ) → TakesGroup (s .board .core) (s .board .ring) d (s .memory) r m′
+      → DoneGroup (s .board) (s .memory) (signal Tick) (groupChangeOf r) m′
+  unfolding groupOf groupMemory noGroup
+  group-done r m′ x = go (canTakeGroup (s .board .core) (s .board .ring) d (length (s .memory))) refl
+    where
+      go : (t : Bool) → canTakeGroup (s .board .core) (s .board .ring) d (length (s .memory)) ≡ t
+          → DoneGroup (s .board) (s .memory) (signal Tick) (groupChangeOf r) m′
+      go true h =
+          let p = x .parts ∙ cond-true _ _ _ h in
+          let q = x .memory ∙ cond-true _ _ _ h in
+          let g = groupOf (s .board .core) (s .board .ring) d (s .memory) in
+          let n = groupMemory (s .board .core) (s .board .ring) d (s .memory) in
+          let k : DoneGroup (s .board) (s .memory) (signal Tick) (groupChangeOf g) n =
+          record {
+            stepped = λ z. ticked-stepped _ _ refl (group-does (s .board .core) (s .board .ring) d (s .memory) h
+                (λ o. eqb-false _ 0 (not-true _ z) (sym (all-move (s .board .core) (s .board .ring) d (s .memory) h) ∙ o)));
+            left = λ z. ap (λ (y : Dealing). y .memory) (none-dealt (targets (s .board .core)) _ (eqb-true _ 0 (not-false _ z)));
+          } in
+          subst (λ (y : GroupTaken). DoneGroup (s .board) (s .memory) (signal Tick) (groupChangeOf y) m′) (sym p)
+          (subst (λ (y : List ℕ). DoneGroup (s .board) (s .memory) (signal Tick) (groupChangeOf g) y) (sym q) k)
+      go false h =
+          let p = x .parts ∙ cond-false _ _ _ h in
+          record {
+            stepped = λ z. absurd (false≢true (sym (ap (λ (y : GroupTaken). not (eqb (y .moved) 0)) p) ∙ z));
+            left = λ _. x .memory ∙ cond-false _ _ _ h;
           }

@@ -25,6 +25,7 @@ use Rattle.rules.specs.Laws.Soundness.{Stands}
 use Rattle.board.specs.declared.Reply.{Reply}
 use Rattle.board.specs.Promises.{Stepped}
 use Rattle.listing.specs.declared.shortcuts.Change.{Change}
+use Rattle.listing.specs.declared.shortcuts.GroupChange.{GroupChange}
 
 -- ---- Which events
 
@@ -82,3 +83,23 @@ pub record Done (b : Board) (m : List ℕ) (e : Event) (r : Change) (m′ : List
   pub stepped : r .done ≡ true → Stepped b m e (replyOf b r) m′
   pub left : r .done ≡ false → m′ ≡ m
   pub channel : r .channel < 20
+
+-- ---- The same of a group
+
+abbrev pub groupBoard : Board → GroupChange → Board
+groupBoard b r =
+    record {
+      core = withBurst (r .burst)
+          (withLoad (r .load)
+          (withOutputs (record { mask = b .core .outputs .mask; cursor = b .core .outputs .cursor; levels = r .levels }) (b .core)));
+      size = b .size;
+      request = b .request;
+      ring = r .ring;
+    }
+
+abbrev pub groupReply : Board → GroupChange → Reply
+groupReply b r = record { answer = record { refusal = 0; register = 0; moved = r .moved; fate = 0 }; board = groupBoard b r }
+
+pub record DoneGroup (b : Board) (m : List ℕ) (e : Event) (r : GroupChange) (m′ : List ℕ) : Type 0 where
+  pub stepped : r .done ≡ true → Stepped b m e (groupReply b r) m′
+  pub left : r .done ≡ false → m′ ≡ m

@@ -1,4 +1,4 @@
-// The commonest events of a session, a load that is stored and a tick of sequential mode, as the few parts of the board that they
+// The commonest events of a session, a load that is stored and a tick that moves values, as the few parts of the board that they
 // change: the loop over a session then need not hand the whole record to `step` and back.
 ghost use Prim.Native.Nat.{_<_};
 ghost use mathlib.Core.Path.{_≡_};
@@ -8,9 +8,10 @@ ghost use Rattle.rules.specs.Record.{depth};
 ghost use Rattle.rules.specs.Laws.Soundness.{Stands};
 ghost use Rattle.rules.specs.declared.Event.the-variants.{Write as write, Signal as signal};
 ghost use Rattle.rules.specs.declared.Signal.the-variants.{Tick as tick};
-ghost use Rattle.listing.specs.Shortcuts.{signalKind, kindOf, valueOf, takes, ticks, Kept, Done};
+ghost use Rattle.listing.specs.Shortcuts.{signalKind, kindOf, valueOf, takes, ticks, Kept, Done, DoneGroup};
 use moves::load;
 use moves::take;
+use moves::take_group;
 use record::depth;
 use rules::Board;
 use rules::Burst;
@@ -28,6 +29,16 @@ pub(crate) struct Change {
     pub channel: usize,
     pub level: u16,
     pub cursor: u32,
+    pub burst: Burst,
+    pub load: Load,
+    pub ring: Ring,
+}
+
+// The same of a tick of simultaneous mode, which changes many levels.
+pub(crate) struct GroupChange {
+    pub done: bool,
+    pub moved: u32,
+    pub levels: [u16; 20],
     pub burst: Burst,
     pub load: Load,
     pub ring: Ring,
@@ -182,4 +193,59 @@ pub(crate) fn shortcut(b: Board, memory: &mut [u32], e: Event) -> Change
         return ticked(b, d, memory);
     }
     undone(b)
+}
+
+// A tick that is accepted, done if it moves a group in simultaneous mode.
+pub(crate) fn group_ticked(b: Board, d: u32, memory: &mut [u32]) -> GroupChange
+    requires { ⌜ Stands (record { board = b; memory = now memory }) × (d ≡ depth b) × (ticks (b .core) ≡ true) ⌝ }
+    ensures { λ r. ⌜ DoneGroup b (now (memory .entry)) (signal tick) r (now (memory .exit)) ⌝ }
+{
+    let core = b.core;
+    let ring = b.ring;
+    let t = take_group(core, ring, d, memory);
+    let levels = t.levels;
+    let burst = t.burst;
+    let loading = t.load;
+    let after = t.ring;
+    GroupChange {
+        done: t.moved != 0,
+        moved: t.moved,
+        levels: levels,
+        burst: burst,
+        load: loading,
+        ring: after,
+    }
+}
+
+pub(crate) fn group_undone(b: Board) -> GroupChange
+    ensures { λ r. ⌜ r .done ≡ false ⌝ }
+{
+    let levels = b.core.outputs.levels;
+    let burst = b.core.burst;
+    let loading = b.core.load;
+    let ring = b.ring;
+    GroupChange {
+        done: false,
+        moved: 0,
+        levels: levels,
+        burst: burst,
+        load: loading,
+        ring: ring,
+    }
+}
+
+// A tick of simultaneous mode on a board of a run.
+pub(crate) fn group_shortcut(b: Board, memory: &mut [u32], e: Event) -> GroupChange
+    requires { ⌜ Kept (record { board = b; memory = now memory }) ⌝ }
+    ensures { λ r. ⌜ DoneGroup b (now (memory .entry)) e r (now (memory .exit)) ⌝ }
+{
+    if !b.core.powered {
+        return group_undone(b);
+    }
+    let kind = kind_of(e);
+    let core = b.core;
+    if (kind == 2) & ticks(core) {
+        return group_ticked(b, depth(b), memory);
+    }
+    group_undone(b)
 }

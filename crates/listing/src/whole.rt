@@ -7,6 +7,7 @@ ghost use Rattle.listing.specs.Listing.{listing, left};
 use crate::lines::put_done;
 use crate::lines::put_heading;
 use crate::lines::put_line;
+use crate::shortcuts::group_shortcut;
 use crate::shortcuts::shortcut;
 use crate::tails::put_tail;
 use board::step;
@@ -60,6 +61,21 @@ pub(crate) fn put_listing(s: &[u8], memory: &mut [u32], out: &mut [u8]) -> usize
                     let after = change.ring;
                     ring = after;
                     at = put_done(out, at, number, change.moved, change.fate, ring.count);
+                    number += 1;
+                    place = next;
+                    continue;
+                }
+                let group = group_shortcut(whole(core, size, request, ring), memory, e);
+                if group.done {
+                    let levels = group.levels;
+                    outputs.levels = levels;
+                    let burst = group.burst;
+                    core.burst = burst;
+                    let loading = group.load;
+                    core.load = loading;
+                    let after = group.ring;
+                    ring = after;
+                    at = put_done(out, at, number, group.moved, 0, ring.count);
                     number += 1;
                     place = next;
                     continue;

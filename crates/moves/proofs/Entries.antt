@@ -1,18 +1,18 @@
 -- The tests of the public functions say just what those below count on; and so what the promises say of a core and a ring that fit.
-use Prim.Native.Nat.{ℕ, _≤_, _<_}
-use mathlib.Core.Path.{_≡_}
-use mathlib.Core.Bool.{true, not}
+use Prim.Native.Nat.{ℕ, _^_, _≤_, _<_}
+use mathlib.Core.Path.{_≡_, refl}
+use mathlib.Core.Bool.{Bool, true, false, not, cond, _&&_, false≢true}
 use mathlib.Core.List.{List}
-use borrow.Author.Tests.{leb-true, ltb-true, le-leb, lt-ltb}
-use lib.Dec.{leb}
+use borrow.Author.Tests.{leb-true, ltb-true, not-true, le-leb, lt-ltb}
+use lib.Dec.{leb, ltb}
 use lib.ListN.{length}
 use Rattle.rules.specs.declared.Core.{Core}
 use Rattle.rules.specs.declared.Ring.{Ring}
-use Rattle.rules.specs.Clocks.{idle, clock}
+use Rattle.rules.specs.Clocks.{idle, targets, clock}
 use Rattle.rules.specs.Writes.{writeData}
 use Rattle.rules.proofs.Choice.{and-both, both-and, all-cons, cons-all, all-nil}
 use Rattle.moves.specs.declared.Played.{Played}
-use Rattle.moves.specs.Ready.{Ready, Sober, fits, canClock, canLoad, canTake}
+use Rattle.moves.specs.Ready.{Ready, Sober, fits, canClock, canLoad, canTake, canTakeGroup}
 use Rattle.moves.specs.Does.{Does, listed}
 use Rattle.moves.specs.Promises.{Clocked, Loaded}
 
@@ -62,6 +62,33 @@ take-ready c ring d m h =
     let v = and-both (not (idle c)) _ (u .1) in
     let r = clock-ready c ring d m (t .0) in
     (r .0, r .1 .cursor, ltb-true _ _ (v .1))
+
+-- ---- A clock of simultaneous mode
+
+pub can-clock-mask : (c : Core) (ring : Ring) (d len : ℕ) → canClock c ring d len ≡ true → c .outputs .mask < 2 ^ 20
+unfolding canClock
+can-clock-mask c ring d len h =
+    let t = and-both (fits ring d len) _ h in
+    ltb-true _ _ (and-both (ltb (c .outputs .mask) (2 ^ 20)) _ (t .1) .0)
+
+pub group-says : (c : Core) (ring : Ring) (d len : ℕ) → canTakeGroup c ring d len ≡ true
+    → (canClock c ring d len ≡ true) × (c .control .simultaneous ≡ true) × (idle c ≡ false) × (length (targets c) ≤ ring .count)
+unfolding canTakeGroup
+group-says c ring d len h = go (canClock c ring d len) refl h
+  where
+    go : (t : Bool) → canClock c ring d len ≡ t → cond t (c .control .simultaneous && (not (idle c) && leb (length (targets c)) (ring .count))) false ≡ true
+        → (canClock c ring d len ≡ true) × (c .control .simultaneous ≡ true) × (idle c ≡ false) × (length (targets c) ≤ ring .count)
+    go true e k =
+        let u = and-both (c .control .simultaneous) _ k in
+        let v = and-both (not (idle c)) _ (u .1) in
+        (e, u .0, not-true _ (v .0), leb-true _ _ (v .1))
+    go false e k = absurd (false≢true k)
+
+pub group-ready : (c : Core) (ring : Ring) (d : ℕ) (m : List ℕ) → canTakeGroup c ring d (length m) ≡ true
+    → Ready d ring m × (c .outputs .mask < 2 ^ 20) × (c .control .simultaneous ≡ true) × (length (targets c) ≤ ring .count)
+group-ready c ring d m h =
+    let g = group-says c ring d (length m) h in
+    (clock-ready c ring d m (g .0) .0, can-clock-mask c ring d (length m) (g .0), g .1, g .3)
 
 -- ---- A load
 

@@ -6,5 +6,5 @@ pub mod Moving
 pub mod Dealt
 pub mod Standing
 pub mod Entries
-pub mod Sequential
+pub mod AsParts
 pub mod Unique

@@ -2,14 +2,14 @@
 --   Ready d ring m   the values of the ring have their places in the memory m, the depth being d
 --   Sober c          the core's mask and cursor are those of at most twenty channels
 use Prim.Native.Nat.{ℕ, _≤_, _<_, _^_}
-use mathlib.Core.Bool.{Bool, not, _&&_}
+use mathlib.Core.Bool.{Bool, false, not, cond, _&&_}
 use mathlib.Core.List.{List, [], _∷_}
 use lib.Dec.{leb, ltb}
 use lib.ListN.{length}
 use Rattle.rules.specs.declared.Core.{Core}
 use Rattle.rules.specs.declared.Ring.{Ring}
 use Rattle.rules.specs.Bits.{all}
-use Rattle.rules.specs.Clocks.{idle}
+use Rattle.rules.specs.Clocks.{idle, targets}
 
 pub record Ready (d : ℕ) (ring : Ring) (m : List ℕ) : Type 0 where
   pub first : ring .first < d
@@ -35,3 +35,8 @@ canLoad size ring d len = fits ring d len && leb size d
 -- a clock of sequential mode moves a value
 unfoldable pub canTake : Core → Ring → ℕ → ℕ → Bool
 canTake c ring d len = canClock c ring d len && (not (c .control .simultaneous) && (not (idle c) && ltb 0 (ring .count)))
+
+-- a clock of simultaneous mode moves a group
+unfoldable pub canTakeGroup : Core → Ring → ℕ → ℕ → Bool
+canTakeGroup c ring d len =
+    cond (canClock c ring d len) (c .control .simultaneous && (not (idle c) && leb (length (targets c)) (ring .count))) false

@@ -6,7 +6,8 @@ use Rattle.rules.specs.declared.Core.{Core}
 use Rattle.rules.specs.declared.Ring.{Ring}
 use Rattle.moves.specs.declared.Played.{Played}
 use Rattle.moves.specs.declared.Taken.{Taken}
-use Rattle.moves.specs.Promises.{Clocked, Loaded, Takes}
+use Rattle.moves.specs.declared.GroupTaken.{GroupTaken}
+use Rattle.moves.specs.Promises.{Clocked, Loaded, Takes, TakesGroup}
 
 abbrev pub Clocked-unique : Type 0
 Clocked-unique =
@@ -27,4 +28,11 @@ Takes-unique =
     (c : Core) (ring : Ring) (d : ℕ) (m : List ℕ) (r r′ : Taken) (n n′ : List ℕ)
     → Takes c ring d m r n
     → Takes c ring d m r′ n′
+    → (r ≡ r′) × (n ≡ n′)
+
+abbrev pub TakesGroup-unique : Type 0
+TakesGroup-unique =
+    (c : Core) (ring : Ring) (d : ℕ) (m : List ℕ) (r r′ : GroupTaken) (n n′ : List ℕ)
+    → TakesGroup c ring d m r n
+    → TakesGroup c ring d m r′ n′
     → (r ≡ r′) × (n ≡ n′)

@@ -1,11 +1,14 @@
 // The values that move: those that an accepted clock takes to the channels, and one that a load stores.
 // Every call takes every input. What each promises is in specs/Promises.antt.
-ghost use Rattle.moves.specs.Promises.{Clocked, Loaded, Takes};
+ghost use Rattle.moves.specs.Promises.{Clocked, Loaded, Takes, TakesGroup};
 use crate::clocks::run_clock;
+use crate::grouped::group_taken;
+use crate::grouped::no_group;
 use crate::loads::load_value;
 use crate::ready::can_clock;
 use crate::ready::can_load;
 use crate::ready::can_take;
+use crate::ready::can_take_group;
 use crate::single::not_taken;
 use crate::single::taken;
 use rules::Burst;
@@ -16,6 +19,7 @@ use rules::Ring;
 mod channels;
 mod clocks;
 mod deal;
+mod grouped;
 mod loads;
 mod ready;
 mod ring;
@@ -37,6 +41,15 @@ pub struct Taken {
     pub channel: usize,
     pub level: u16,
     pub cursor: u32,
+    pub burst: Burst,
+    pub load: Load,
+    pub ring: Ring,
+}
+
+// What a clock of simultaneous mode that moves a group changes: the levels, and what an EOF ends. Where none is moved all is as it was.
+pub struct GroupTaken {
+    pub moved: u32,
+    pub levels: [u16; 20],
     pub burst: Burst,
     pub load: Load,
     pub ring: Ring,
@@ -83,4 +96,14 @@ pub fn take(c: Core, ring: Ring, d: u32, memory: &mut [u32]) -> Taken
         return taken(c, ring, d, memory);
     }
     not_taken(c, ring)
+}
+
+// An accepted clock that moves a group, in simultaneous mode, as the parts that it changes: as `take` for the other mode.
+pub fn take_group(c: Core, ring: Ring, d: u32, memory: &mut [u32]) -> GroupTaken
+    ensures { λ r. ⌜ TakesGroup c ring d (now (memory .entry)) r (now (memory .exit)) ⌝ }
+{
+    if can_take_group(c, ring, d, memory.len()) {
+        return group_taken(c, ring, d, memory);
+    }
+    no_group(c, ring)
 }

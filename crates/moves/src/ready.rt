@@ -1,6 +1,7 @@
 // Whether a clock and a load have what they need.
 ghost use mathlib.Core.Path.{_≡_};
-ghost use Rattle.moves.specs.Ready.{fits, canClock, canLoad, canTake};
+ghost use Rattle.moves.specs.Ready.{fits, canClock, canLoad, canTake, canTakeGroup};
+use crate::channels::group_size;
 use crate::states::idle;
 use rules::Core;
 use rules::Ring;
@@ -28,4 +29,13 @@ pub(crate) fn can_take(c: Core, r: Ring, d: u32, len: usize) -> bool
     ensures { λ x. ⌜ x ≡ canTake c r d len ⌝ }
 {
     can_clock(c, r, d, len) & (!c.control.simultaneous & (!idle(c) & (0 < r.count)))
+}
+
+pub(crate) fn can_take_group(c: Core, r: Ring, d: u32, len: usize) -> bool
+    ensures { λ x. ⌜ x ≡ canTakeGroup c r d len ⌝ }
+{
+    if can_clock(c, r, d, len) {
+        return c.control.simultaneous & (!idle(c) & (group_size(c) <= r.count));
+    }
+    false
 }

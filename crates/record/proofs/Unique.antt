@@ -1,9 +1,6 @@
 -- Each promise says that the outcome equals one thing: two that do are equal.
-use mathlib.Core.Path.{_≡_, sym, _∙_}
+use Rattle.rules.proofs.Equal.{determined}
 use Rattle.record.specs.Unique.{Unpowered-unique, Sound-unique, Depth-unique, Limit-unique}
-
-determined {ℓ} : {A : Type ℓ} {x y z : A} → x ≡ z → y ≡ z → x ≡ y
-determined p q = p ∙ sym q
 
 pub unpowered-unique : Unpowered-unique
 unpowered-unique r r′ p q = determined (p .board) (q .board)

@@ -3,6 +3,7 @@
 -- tools
 pub mod Open
 pub mod Choice
+pub mod Equal
 pub mod Offsets
 pub mod Masks
 pub mod Readings

@@ -1,9 +1,6 @@
 -- Each promise says what every part of the outcome equals: two that do are equal.
-use mathlib.Core.Path.{_≡_, sym, _∙_}
+use Rattle.rules.proofs.Equal.{determined}
 use Rattle.run.specs.Unique.{Advances-unique, Runs-unique}
-
-determined {ℓ} : {A : Type ℓ} {x y z : A} → x ≡ z → y ≡ z → x ≡ y
-determined p q = p ∙ sym q
 
 pub advances-unique : Advances-unique
 advances-unique s c b m r r′ n n′ p q =

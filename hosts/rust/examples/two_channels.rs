@@ -41,4 +41,12 @@ fn main() {
     for (channel, level) in board.levels()[..6].iter().enumerate() {
         println!("channel {channel}: {level:04X}");
     }
+
+    // A session file: a power-up, and a record that is cut.
+    let file = [
+        0x01, 0x00, 0x07, 0x01, 0x00, 0x01, 0x00, 0x00, 0x00, 0x10, 0x00,
+    ];
+    let mut text = vec![0; nergutsai::room(file.len())];
+    let length = nergutsai::list(&file, &mut memory, &mut text);
+    print!("{}", String::from_utf8_lossy(&text[..length]));
 }

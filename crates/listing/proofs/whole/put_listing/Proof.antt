@@ -11,14 +11,16 @@ use Rattle.rules.specs.declared.Core.{Core}
 use Rattle.rules.specs.declared.Size.{Size}
 use Rattle.rules.specs.declared.Ring.{Ring}
 use Rattle.rules.specs.declared.Board.{Board}
+use Rattle.rules.specs.declared.Event.{Event}
 use Rattle.rules.specs.Record.{State, unpowered}
 use Rattle.rules.specs.Parts.{withOutputs}
 use Rattle.session.specs.File.{Session, session}
 use Rattle.session.proofs.Given.{item-exactly, item-grows}
 use Rattle.session.proofs.Sessions.{stands-within}
+use Rattle.board.specs.declared.Reply.{Reply}
 use Rattle.board.specs.Promises.{Stepped}
 use Rattle.listing.specs.Listing.{listing, left}
-use Rattle.listing.specs.Shortcuts.{replyOf, stateOf, Kept}
+use Rattle.listing.specs.Shortcuts.{replyOf, groupReply, stateOf, Kept}
 use Rattle.listing.proofs.Puts.{then, put-length}
 use Rattle.listing.proofs.Writing.{Turn, turn-start, tail-room, number-small, turn-tail, turn-stepped}
 use Rattle.listing.proofs.Body.{in-reach}
@@ -28,6 +30,12 @@ use Rattle.listing.proofs.whole.put_listing.Tie as tie
 -- the board whose outputs are kept apart
 abbrev boardNow : Core → Outputs → Size → Bool → Ring → Board
 boardNow core outputs size request ring = record { core = withOutputs outputs core; size = size; request = request; ring = ring }
+
+-- what was done to a board put together from its parts was done to the board that they make
+from-whole : (reply : Board → Reply) {x y : Board} {m n m′ : List ℕ} {e : Event}
+    → x ≡ y → m ≡ n → Stepped x m e (reply x) m′ → Stepped y n e (reply y) m′
+from-whole reply {x = x} {n = n} {m′ = m′} {e = e} p q w =
+    subst (λ (z : Board). Stepped z n e (reply z) m′) p (subst (λ (z : List ℕ). Stepped x z e (reply x) m′) q w)
 
 abbrev Inv-loop : tie.InvT-loop
 Inv-loop s memory₀ out₀ at₀ core₀ outputs₀ size₀ request₀ ring₀ place₀ number₀ memory out at core outputs size request ring place number =
@@ -102,8 +110,7 @@ loop-again c =
     let stood = sym (c .before .before .before .before .before .before .before .before .before .before .before .before .before .before .before .before .read-at .ensures .told) ∙ i .1 in
     let cut = c .before .before .before .before .before .before .before .before .before .before .shortcut in
     let b = boardNow (l .core) (l .outputs) (l .size) (l .request) (l .ring) in
-    let w = subst (λ (x : Board). Stepped x (l .memory) (i .0 .0) (replyOf x (cut .result)) (cut .last .1 .0)) (c .before .before .before .before .before .before .before .before .before .before .before .before .whole .ensures)
-    (cut .ensures .stepped (c .before .before .before .before .before .before .before .if1 .taken)) in
+    let w = from-whole (λ (x : Board). replyOf x (cut .result)) (c .before .before .before .before .before .before .before .before .before .before .before .before .whole .ensures) refl (cut .ensures .stepped (c .before .before .before .before .before .before .before .if1 .taken)) in
     let put = c .before .before .put-done in
     let t = turn-stepped (a .s .now) (a .memory .now) (h .last .0) (h .result) (l .out) (l .at) b (l .memory) (l .place) (l .number) (l .inv .3) (l .inv .4) (l .inv .2)
     (i .0 .0) _ _ _ _ _ stood w (put .ensures) in
@@ -112,41 +119,82 @@ loop-again c =
 whole-requires-2 : tie.Need-whole-requires-2 Inv-loop μ-loop
 whole-requires-2 c κs = tt
 
-step-requires : tie.Need-step-requires Inv-loop μ-loop
-step-requires c κs = tt
+group-shortcut-requires : tie.Need-group-shortcut-requires Inv-loop μ-loop
+group-shortcut-requires c κs =
+    let l = c .before .before .before .before .before .before .before .before .before .before .before .before .loop in
+    let cut = c .before .before .before .before .before .shortcut in
+    rw (c .before .whole2 .ensures, cut .ensures .left (c .before .before .if1 .left)) (l .inv .2)
 
-put-line-requires : tie.Need-put-line-requires Inv-loop μ-loop
-put-line-requires c κs = omega (arith, tail-room _ _ _ _ _ _ _ _ _ _ (c .before .before .before .before .before .before .before .before .before .before .before .before .before .before .before .before .before .before .before .before .before .before .loop .inv .4))
+put-done-requires-2 : tie.Need-put-done-requires-2 Inv-loop μ-loop
+put-done-requires-2 c κs = omega (arith, tail-room _ _ _ _ _ _ _ _ _ _ (c .before .before .before .before .before .before .before .before .before .before .before .before .before .before .before .before .before .before .before .before .before .loop .inv .4))
 
 add-number-2 : tie.Need-add-number-2 Inv-loop μ-loop
 add-number-2 c =
-    record { fits = omega (arith, number-small _ _ _ _ _ _ _ _ _ _ (c .before .before .before .before .before .before .before .before .before .before .before .before .before .before .before .before .before .before .before .before .before .before .before .before .before .loop .inv .4) (c .before .before .before .before .before .before .before .before .before .before .before .before .before .before .before .before .before .before .before .before .before .before .before .before .before .before .before .before .before .before .before .before .before .before .before .before .before .before .pre .0)) }
+    record { fits = omega (arith, number-small _ _ _ _ _ _ _ _ _ _ (c .before .before .before .before .before .before .before .before .before .before .before .before .before .before .before .before .before .before .before .before .before .before .before .before .loop .inv .4) (c .before .before .before .before .before .before .before .before .before .before .before .before .before .before .before .before .before .before .before .before .before .before .before .before .before .before .before .before .before .before .before .before .before .before .before .before .before .pre .0)) }
 
 loop-less-2 : tie.Need-loop-less-2 Inv-loop μ-loop
 loop-less-2 c =
-    let a = c .before .before .before .before .before .before .before .before .before .before .before .before .before .before .before .before .before .before .before .before .before .before .before .before .before .before .before .before .before .before .before .before .before .before .before .before .before .before .args in
-    let l = c .before .before .before .before .before .before .before .before .before .before .before .before .before .before .before .before .before .before .before .before .before .before .before .before .before .loop in
-    let i = c .before .before .before .before .before .before .before .before .before .before .before .before .before .before .before .before .before .before .before .before .before .before .item .given in
-    let stood = sym (c .before .before .before .before .before .before .before .before .before .before .before .before .before .before .before .before .before .before .before .before .before .before .before .before .read-at .ensures .told) ∙ i .1 in
+    let a = c .before .before .before .before .before .before .before .before .before .before .before .before .before .before .before .before .before .before .before .before .before .before .before .before .before .before .before .before .before .before .before .before .before .before .before .before .before .args in
+    let l = c .before .before .before .before .before .before .before .before .before .before .before .before .before .before .before .before .before .before .before .before .before .before .before .before .loop in
+    let i = c .before .before .before .before .before .before .before .before .before .before .before .before .before .before .before .before .before .before .before .before .before .item .given in
+    let stood = sym (c .before .before .before .before .before .before .before .before .before .before .before .before .before .before .before .before .before .before .before .before .before .before .before .read-at .ensures .told) ∙ i .1 in
     omega (arith, item-grows (a .s .now) (l .place) (i .0 .0) _ stood)
 
 loop-again-2 : tie.Need-loop-again-2 Inv-loop μ-loop
 loop-again-2 c =
-    let a = c .before .before .before .before .before .before .before .before .before .before .before .before .before .before .before .before .before .before .before .before .before .before .before .before .before .before .before .before .before .before .before .before .before .before .before .before .before .before .args in
-    let h = c .before .before .before .before .before .before .before .before .before .before .before .before .before .before .before .before .before .before .before .before .before .before .before .before .before .before .before .before .before .before .before .before .before .put-heading in
-    let l = c .before .before .before .before .before .before .before .before .before .before .before .before .before .before .before .before .before .before .before .before .before .before .before .before .before .loop in
-    let i = c .before .before .before .before .before .before .before .before .before .before .before .before .before .before .before .before .before .before .before .before .before .before .item .given in
-    let stood = sym (c .before .before .before .before .before .before .before .before .before .before .before .before .before .before .before .before .before .before .before .before .before .before .before .before .read-at .ensures .told) ∙ i .1 in
-    let cut = c .before .before .before .before .before .before .before .before .before .before .before .before .before .before .before .before .before .before .shortcut in
+    let a = c .before .before .before .before .before .before .before .before .before .before .before .before .before .before .before .before .before .before .before .before .before .before .before .before .before .before .before .before .before .before .before .before .before .before .before .before .before .args in
+    let h = c .before .before .before .before .before .before .before .before .before .before .before .before .before .before .before .before .before .before .before .before .before .before .before .before .before .before .before .before .before .before .before .before .put-heading in
+    let l = c .before .before .before .before .before .before .before .before .before .before .before .before .before .before .before .before .before .before .before .before .before .before .before .before .loop in
+    let i = c .before .before .before .before .before .before .before .before .before .before .before .before .before .before .before .before .before .before .before .before .before .item .given in
+    let stood = sym (c .before .before .before .before .before .before .before .before .before .before .before .before .before .before .before .before .before .before .before .before .before .before .before .read-at .ensures .told) ∙ i .1 in
+    let cut = c .before .before .before .before .before .before .before .before .before .before .before .before .before .before .before .before .before .shortcut in
+    let group = c .before .before .before .before .before .before .before .before .before .before .before .group-shortcut in
+    let b = boardNow (l .core) (l .outputs) (l .size) (l .request) (l .ring) in
+    let w = from-whole (λ (x : Board). groupReply x (group .result)) (c .before .before .before .before .before .before .before .before .before .before .before .before .before .whole2 .ensures) (cut .ensures .left (c .before .before .before .before .before .before .before .before .before .before .before .before .before .before .if1 .left))
+    (group .ensures .stepped (c .before .before .before .before .before .before .before .before .if2 .taken)) in
+    let put = c .before .before .put-done2 in
+    let t = turn-stepped (a .s .now) (a .memory .now) (h .last .0) (h .result) (l .out) (l .at) b (l .memory) (l .place) (l .number) (l .inv .3) (l .inv .4) (l .inv .2)
+    (i .0 .0) _ _ _ _ _ stood w (put .ensures) in
+    (group .kept .1 .0 ∙ cut .kept .1 .0 ∙ l .inv .0, put .kept .0 ∙ l .inv .1, t .0, t .1, t .2)
+
+whole-requires-3 : tie.Need-whole-requires-3 Inv-loop μ-loop
+whole-requires-3 c κs = tt
+
+step-requires : tie.Need-step-requires Inv-loop μ-loop
+step-requires c κs = tt
+
+put-line-requires : tie.Need-put-line-requires Inv-loop μ-loop
+put-line-requires c κs = omega (arith, tail-room _ _ _ _ _ _ _ _ _ _ (c .before .before .before .before .before .before .before .before .before .before .before .before .before .before .before .before .before .before .before .before .before .before .before .before .before .before .before .before .loop .inv .4))
+
+add-number-3 : tie.Need-add-number-3 Inv-loop μ-loop
+add-number-3 c =
+    record { fits = omega (arith, number-small _ _ _ _ _ _ _ _ _ _ (c .before .before .before .before .before .before .before .before .before .before .before .before .before .before .before .before .before .before .before .before .before .before .before .before .before .before .before .before .before .before .before .loop .inv .4) (c .before .before .before .before .before .before .before .before .before .before .before .before .before .before .before .before .before .before .before .before .before .before .before .before .before .before .before .before .before .before .before .before .before .before .before .before .before .before .before .before .before .before .before .before .pre .0)) }
+
+loop-less-3 : tie.Need-loop-less-3 Inv-loop μ-loop
+loop-less-3 c =
+    let a = c .before .before .before .before .before .before .before .before .before .before .before .before .before .before .before .before .before .before .before .before .before .before .before .before .before .before .before .before .before .before .before .before .before .before .before .before .before .before .before .before .before .before .before .before .args in
+    let l = c .before .before .before .before .before .before .before .before .before .before .before .before .before .before .before .before .before .before .before .before .before .before .before .before .before .before .before .before .before .before .before .loop in
+    let i = c .before .before .before .before .before .before .before .before .before .before .before .before .before .before .before .before .before .before .before .before .before .before .before .before .before .before .before .before .item .given in
+    let stood = sym (c .before .before .before .before .before .before .before .before .before .before .before .before .before .before .before .before .before .before .before .before .before .before .before .before .before .before .before .before .before .before .read-at .ensures .told) ∙ i .1 in
+    omega (arith, item-grows (a .s .now) (l .place) (i .0 .0) _ stood)
+
+loop-again-3 : tie.Need-loop-again-3 Inv-loop μ-loop
+loop-again-3 c =
+    let a = c .before .before .before .before .before .before .before .before .before .before .before .before .before .before .before .before .before .before .before .before .before .before .before .before .before .before .before .before .before .before .before .before .before .before .before .before .before .before .before .before .before .before .before .before .args in
+    let h = c .before .before .before .before .before .before .before .before .before .before .before .before .before .before .before .before .before .before .before .before .before .before .before .before .before .before .before .before .before .before .before .before .before .before .before .before .before .before .before .put-heading in
+    let l = c .before .before .before .before .before .before .before .before .before .before .before .before .before .before .before .before .before .before .before .before .before .before .before .before .before .before .before .before .before .before .before .loop in
+    let i = c .before .before .before .before .before .before .before .before .before .before .before .before .before .before .before .before .before .before .before .before .before .before .before .before .before .before .before .before .item .given in
+    let stood = sym (c .before .before .before .before .before .before .before .before .before .before .before .before .before .before .before .before .before .before .before .before .before .before .before .before .before .before .before .before .before .before .read-at .ensures .told) ∙ i .1 in
+    let cut = c .before .before .before .before .before .before .before .before .before .before .before .before .before .before .before .before .before .before .before .before .before .before .before .before .shortcut in
+    let group = c .before .before .before .before .before .before .before .before .before .before .before .before .before .before .before .before .before .before .group-shortcut in
     let stepped = c .before .before .before .before .before .before .before .before .before .before .before .before .step in
     let b = boardNow (l .core) (l .outputs) (l .size) (l .request) (l .ring) in
-    let same = cut .ensures .left (c .before .before .before .before .before .before .before .before .before .before .before .before .before .before .before .if1 .left) in
-    let w = subst (λ (x : Board). Stepped x (l .memory) (i .0 .0) (stepped .result) (stepped .last .1 .0)) (c .before .before .before .before .before .before .before .before .before .before .before .before .before .before .whole2 .ensures)
-    (subst (λ (m : List ℕ). Stepped (c .before .before .before .before .before .before .before .before .before .before .before .before .before .before .whole2 .result) m (i .0 .0) (stepped .result) (stepped .last .1 .0)) same (stepped .ensures)) in
+    let same = group .ensures .left (c .before .before .before .before .before .before .before .before .before .before .before .before .before .before .before .if2 .left) ∙ cut .ensures .left (c .before .before .before .before .before .before .before .before .before .before .before .before .before .before .before .before .before .before .before .before .before .if1 .left) in
+    let w = from-whole (λ (x : Board). stepped .result) (c .before .before .before .before .before .before .before .before .before .before .before .before .before .before .whole3 .ensures) same (stepped .ensures) in
     let put = c .before .before .put-line in
     let t = turn-stepped (a .s .now) (a .memory .now) (h .last .0) (h .result) (l .out) (l .at) b (l .memory) (l .place) (l .number) (l .inv .3) (l .inv .4) (l .inv .2)
     (i .0 .0) _ _ _ _ _ stood w (put .ensures) in
-    (stepped .kept .1 .0 ∙ cut .kept .1 .0 ∙ l .inv .0, put .kept .0 ∙ l .inv .1, t .0, t .1, t .2)
+    (stepped .kept .1 .0 ∙ group .kept .1 .0 ∙ cut .kept .1 .0 ∙ l .inv .0, put .kept .0 ∙ l .inv .1, t .0, t .1, t .2)
 
 enum-known-item-2 : tie.Need-enum-known-item-2 Inv-loop μ-loop
 enum-known-item-2 c = search needs
@@ -200,11 +248,17 @@ put-listing-spec =
     loop-less
     loop-again
     whole-requires-2
-    step-requires
-    put-line-requires
+    group-shortcut-requires
+    put-done-requires-2
     add-number-2
     loop-less-2
     loop-again-2
+    whole-requires-3
+    step-requires
+    put-line-requires
+    add-number-3
+    loop-less-3
+    loop-again-3
     enum-known-item-2
     put-tail-requires
     same-length

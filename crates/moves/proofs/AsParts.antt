@@ -1,4 +1,4 @@
--- What `take` tells of a clock of sequential mode is what the rules say of it.
+-- What `take` tells of a clock of sequential mode, and `take_group` of one of simultaneous mode, is what the rules say of it.
 use Prim.Native.Nat.{ℕ, _+_, _<_, _≤_}
 use mathlib.Core.Path.{_≡_, refl, sym, ap, _∙_}
 use mathlib.Core.Logic.{_≢_}
@@ -12,15 +12,16 @@ use Rattle.rules.specs.declared.Ring.{Ring}
 use Rattle.rules.specs.Bits.{bit}
 use Rattle.rules.specs.Parts.{withBurst, withLoad, withOutputs}
 use Rattle.rules.specs.Clocks.{idle, closed, nextChannel, targets, moving, cursorAfter, coded, burstAfter, loadAfter, clock}
-use Rattle.rules.proofs.Choice.{and-both, cond-false}
+use Rattle.rules.proofs.Choice.{and-both, cond-true, cond-false}
 use Rattle.rules.proofs.Places.{length-values}
-use Rattle.moves.specs.Ready.{Ready, canClock, canTake}
+use Rattle.moves.specs.Ready.{Ready, canClock, canTake, canTakeGroup}
 use Rattle.moves.specs.Does.{Does, placeOf, listed}
 use Rattle.moves.specs.Deal.{Dealing, left, dealOne, dealAll}
-use Rattle.moves.specs.Single.{frontOf, takenOf, coreWith}
+use Rattle.moves.specs.Single.{takenOf, coreWith}
+use Rattle.moves.specs.Group.{groupOf, groupMemory, coreWithGroup}
 use Rattle.moves.proofs.Dealt.{start, atClock, coreAfter, dealt-does}
 use Rattle.moves.proofs.Moving.{targets-sequential, moving-all}
-use Rattle.moves.proofs.Entries.{take-ready}
+use Rattle.moves.proofs.Entries.{take-ready, group-says, group-ready}
 
 take-says : (c : Core) (ring : Ring) (d : ℕ) (m : List ℕ) → canTake c ring d (length m) ≡ true
     → (c .control .simultaneous ≡ false) × (idle c ≡ false)
@@ -61,4 +62,27 @@ module _ (c : Core) (ring : Ring) (d : ℕ) (m : List ℕ) (h : canTake c ring d
         fate = w .fate;
         ring = ap (λ (y : Dealing). y .deal .ring) (sym dealt-one) ∙ w .ring;
         memory = ap (λ (y : Dealing). y .memory) (sym dealt-one) ∙ w .memory;
+      }
+
+-- ---- The same for a group
+
+module _ (c : Core) (ring : Ring) (d : ℕ) (m : List ℕ) (h : canTakeGroup c ring d (length m) ≡ true) where
+  pub all-move : moving c (listed d ring m) ≡ length (targets c)
+  all-move =
+      let g = group-says c ring d (length m) h in
+      moving-all c (listed d ring m) (g .2) (omega (arith, length-values d (ring .first) (ring .count) m, g .3))
+
+  pub group-does : moving c (listed d ring m) ≢ 0 → Does d (clock c (listed d ring m)) ring m
+      (record { core = coreWithGroup c (groupOf c ring d m); ring = (groupOf c ring d m) .ring; moved = (groupOf c ring d m) .moved; fate = 0 })
+      (groupMemory c ring d m)
+  unfolding groupOf groupMemory cursorAfter
+  group-does n =
+      let w = dealt-does c d ring m (group-ready c ring d m h .0) n in
+      let p : c .outputs .cursor ≡ cursorAfter c = sym (cond-true _ _ _ (group-says c ring d (length m) h .1)) in
+      record {
+        core = (λ i. coreAfter c (p i) ((atClock c d ring m) .deal)) ∙ w .core;
+        moved = sym all-move ∙ w .moved;
+        fate = w .fate;
+        ring = w .ring;
+        memory = w .memory;
       }
