@@ -1,6 +1,6 @@
 -- Pieces written one after the other are one piece, and a piece keeps the length of the output.
 use Prim.Native.Nat.{ℕ, suc, _+_, _≤_}
-use mathlib.Core.Path.{_≡_, ap, _∙_}
+use mathlib.Core.Path.{_≡_, ap, subst, _∙_}
 use mathlib.Core.List.{List, [], _∷_, _++_}
 use native.Mathlib.Nat.{add-zero, add-suc, suc-add}
 use native.Mathlib.Omega.{arith}
@@ -19,6 +19,10 @@ then {o} {o1} {o2} {xs} {ys} {at} {p} {q} a b =
       place = omega (arith, length-append xs ys);
       text = b .text ∙ (λ i. sets (a .text i) (a .place i) ys) ∙ sets-append o at xs ys;
     }
+
+-- a piece by another name
+pub renamed : {o o1 xs ys : List ℕ} {at p : ℕ} → xs ≡ ys → Put o at xs o1 p → Put o at ys o1 p
+renamed {o} {o1} {at = at} {p = p} e a = subst (λ (l : List ℕ). Put o at l o1 p) e a
 
 pub put-length : {o o1 xs : List ℕ} {at p : ℕ} → Put o at xs o1 p → length o1 ≡ length o
 put-length {o} {o1} {xs} {at} a = ap length (a .text) ∙ length-sets o at xs

@@ -3,6 +3,7 @@ ghost use Prim.Native.Nat.{_+_, _≤_};
 ghost use mathlib.Core.List.{_∷_};
 ghost use lib.ListN.{length};
 ghost use Rattle.listing.specs.Text.{space, decimal, heading, tooLong, line, levelsLine, fileLine};
+ghost use Rattle.listing.specs.Pieces.{rest};
 ghost use Rattle.listing.specs.Pieces.{Put};
 use crate::pieces::put_byte;
 use crate::pieces::put_decimal;
@@ -35,6 +36,17 @@ pub(crate) fn put_field(out: &mut [u8], at: usize, n: u32) -> usize
     put_decimal(out, p, n)
 }
 
+// What stands in a line after the register: how many values moved, the fate of a load, the count after.
+pub(crate) fn put_rest(out: &mut [u8], at: usize, moved: u32, fate: u32, count: u32) -> usize
+    requires { ⌜ at + 34 ≤ length (now out) ⌝ }
+    ensures { λ r. ⌜ Put (now (out .entry)) at (rest moved fate count) (now (out .exit)) r ⌝ }
+{
+    let t = put_field(out, at, moved);
+    let u = put_field(out, t, fate);
+    let v = put_field(out, u, count);
+    put_byte(out, v, 10)
+}
+
 // 01: "record number, the four answers, count after"
 pub(crate) fn put_line(out: &mut [u8], at: usize, number: u32, a: Answer, count: u32) -> usize
     requires { ⌜ at + 64 ≤ length (now out) ⌝ }
@@ -44,13 +56,10 @@ pub(crate) fn put_line(out: &mut [u8], at: usize, number: u32, a: Answer, count:
     let q = put_field(out, p, a.refusal);
     let r = put_byte(out, q, 32);
     let s = put_register(out, r, a.register);
-    let t = put_field(out, s, a.moved);
-    let u = put_field(out, t, a.fate);
-    let v = put_field(out, u, count);
-    put_byte(out, v, 10)
+    put_rest(out, s, a.moved, a.fate, count)
 }
 
-// The line of an event that was done and is no read.
+// The line of an event that was done and is no read: its refusal and its register are 0.
 pub(crate) fn put_done(
     out: &mut [u8],
     at: usize,
@@ -62,13 +71,9 @@ pub(crate) fn put_done(
     requires { ⌜ at + 64 ≤ length (now out) ⌝ }
     ensures { λ r. ⌜ Put (now (out .entry)) at (line number (record { refusal = 0; register = 0; moved = moved; fate = fate }) count) (now (out .exit)) r ⌝ }
 {
-    let answer = Answer {
-        refusal: 0,
-        register: 0,
-        moved: moved,
-        fate: fate,
-    };
-    put_line(out, at, number, answer, count)
+    let p = put_long(out, at, number);
+    let s = put_text(out, p, b" 0 00000000");
+    put_rest(out, s, moved, fate, count)
 }
 
 // 01: "levels in four, channel 00 first"

@@ -1,11 +1,13 @@
 -- `listing::lines::put_line` meets its contract: its pieces are the line, and after each there is room for the rest.
 use Prim.Native.Nat.{_+_, _≤_}
+use mathlib.Core.List.{_∷_, _++_}
 use native.Mathlib.Omega.{arith}
 use lib.ListN.{length}
 use borrow.Author.Needs.{needs}
-use Rattle.listing.specs.Text.{line}
-use Rattle.listing.proofs.Puts.{then, put-length, room}
+use Rattle.listing.specs.Text.{space, decimal, hex, line}
+use Rattle.listing.proofs.Puts.{then, renamed, put-length, room}
 use Rattle.listing.proofs.Numbers.{decimal-long, field-long, hex-long}
+use Rattle.listing.proofs.LineParts.{rest-joined}
 use Rattle.listing.proofs.lines.put_line.Statement.{statement}
 use Rattle.listing.proofs.lines.put_line.Tie as tie
 
@@ -21,15 +23,6 @@ after-space c = room 1 42 (after-refusal (c .before .before .before .before)) (c
 after-register : (c : tie.After-put-register) → c .put-register .result + 34 ≤ length (c .put-register .last .0)
 after-register c = room 8 34 (after-space (c .before .before .before .before)) (c .put-register .ensures) (rw hex-long (omega arith))
 
-after-moved : (c : tie.After-put-field2) → c .put-field2 .result + 23 ≤ length (c .put-field2 .last .0)
-after-moved c = room 11 23 (after-register (c .before .before .before .before)) (c .put-field2 .ensures) (field-long _)
-
-after-fate : (c : tie.After-put-field3) → c .put-field3 .result + 12 ≤ length (c .put-field3 .last .0)
-after-fate c = room 11 12 (after-moved (c .before .before .before .before)) (c .put-field3 .ensures) (field-long _)
-
-after-count : (c : tie.After-put-field4) → c .put-field4 .result + 1 ≤ length (c .put-field4 .last .0)
-after-count c = room 11 1 (after-fate (c .before .before .before .before)) (c .put-field4 .ensures) (field-long _)
-
 put-long-requires : tie.Need-put-long-requires
 put-long-requires c κs = search needs
 
@@ -42,32 +35,21 @@ put-byte-requires c κs = omega (arith, after-refusal (c .before .before .before
 put-register-requires : tie.Need-put-register-requires
 put-register-requires c κs = omega (arith, after-space (c .before .before .before))
 
-put-field-requires-2 : tie.Need-put-field-requires-2
-put-field-requires-2 c κs = omega (arith, after-register (c .before .before .before))
-
-put-field-requires-3 : tie.Need-put-field-requires-3
-put-field-requires-3 c κs = omega (arith, after-moved (c .before .before .before))
-
-put-field-requires-4 : tie.Need-put-field-requires-4
-put-field-requires-4 c κs = omega (arith, after-fate (c .before .before .before))
-
-put-byte-requires-2 : tie.Need-put-byte-requires-2
-put-byte-requires-2 c κs = omega (arith, after-count (c .before .before .before))
+put-rest-requires : tie.Need-put-rest-requires
+put-rest-requires c κs = omega (arith, after-register (c .before .before .before))
 
 returns : tie.Need-returns
 unfolding line
 returns c =
-    let newline = c .before .before in
-    let count = newline .before .before .before .before in
-    let fate = count .before .before .before .before in
-    let moved = fate .before .before .before .before in
-    let register = moved .before .before .before .before in
-    let space = register .before .before .before .before in
-    let refusal = space .before .before .before .before in
+    let rest = c .before .before in
+    let register = rest .before .before .before .before in
+    let gap = register .before .before .before .before in
+    let refusal = gap .before .before .before .before in
     let number = refusal .before .before .before .before in
     let two = then (number .put-long .ensures) (refusal .put-field .ensures) in
-    let three = then two (then (space .put-byte .ensures) (register .put-register .ensures)) in
-    then (then (then (then three (moved .put-field2 .ensures)) (fate .put-field3 .ensures)) (count .put-field4 .ensures)) (newline .put-byte2 .ensures)
+    let a = number .before .before .before .args in
+    renamed (rest-joined (decimal (a .number) ++ space ∷ decimal (a .a .refusal) ++ space ∷ hex 8 (a .a .register)) (a .a .moved) (a .a .fate) (a .count))
+    (then (then two (then (gap .put-byte .ensures) (register .put-register .ensures))) (rest .put-rest .ensures))
 
 same-length : tie.Need-same-length
 same-length c = put-length (returns c)
@@ -80,9 +62,6 @@ put-line-spec =
     put-field-requires
     put-byte-requires
     put-register-requires
-    put-field-requires-2
-    put-field-requires-3
-    put-field-requires-4
-    put-byte-requires-2
+    put-rest-requires
     same-length
     returns)
