@@ -3,14 +3,13 @@ use Prim.Native.Nat.{ℕ, _%_, _≤_, _<_}
 use mathlib.Core.Path.{_≡_, refl, sym, ap, subst, _∙_}
 use mathlib.Core.Bool.{Bool, true, false, not, cond, _&&_, true≢false, false≢true}
 use mathlib.Core.List.{List, [], _∷_}
-use native.Mathlib.Nat.{min-eq-right, le-refl}
+use native.Mathlib.Nat.{min-eq-right}
 use native.Mathlib.Omega.{arith}
 use borrow.Author.Tests.{eqb-true, eqb-false, leb-true, ltb-true, not-true, not-false, lt-leb}
 use lib.Dec.{eqb, leb, ltb}
 use lib.ListN.{length, getD, set}
 use lib.Seq.{set-getD}
-use Rattle.rules.specs.declared.Signal.{Signal}
-use Rattle.rules.specs.declared.Signal.the-variants.{Tick, Outside, Trigger, Passed, Failed, Settled}
+use Rattle.rules.specs.declared.Signal.the-variants.{Tick}
 use Rattle.rules.specs.declared.Event.{Event}
 use Rattle.rules.specs.declared.Event.the-variants.{PowerUp, Write, Read, Signal as signal}
 use Rattle.rules.specs.declared.Outputs.{Outputs}
@@ -18,7 +17,7 @@ use Rattle.rules.specs.declared.Core.{Core}
 use Rattle.rules.specs.declared.Board.{Board}
 use Rattle.rules.specs.Record.{State, valueSpan, depthOf, depth, activeSize, stored}
 use Rattle.rules.specs.Parts.{withOutputs}
-use Rattle.rules.specs.Clocks.{Play, store, closed, targets, tickAccepted, clock, onTick, fateNumber}
+use Rattle.rules.specs.Clocks.{Play, store, closed, targets, tickAccepted, clock, onTick}
 use Rattle.rules.specs.Clocks.{stored as storedFate}
 use Rattle.rules.specs.Flags.{isFull}
 use Rattle.rules.specs.Writes.{writeData, onWrite}
@@ -28,7 +27,7 @@ use Rattle.rules.specs.Interrupt.{conditions, condition, requestHeld, edge, req
 use Rattle.rules.specs.Refusals.{refusal}
 use Rattle.rules.specs.Step.{Outcome, reading, played, boardBefore, withRequest, done, refused, step}
 use Rattle.rules.specs.Laws.Soundness.{Stands}
-use Rattle.rules.specs.Laws.Refusals.{Offset, Given, written, heard, aTick}
+use Rattle.rules.specs.Laws.Refusals.{written, heard, aTick}
 use Rattle.rules.proofs.Choice.{all-cons, cond-true, cond-false}
 use Rattle.rules.proofs.Steps.{step-cases}
 use Rattle.rules.proofs.Lasting.{done-stands, up-stands, next-below}
@@ -47,7 +46,7 @@ use Rattle.board.specs.Promises.{Stepped}
 use Rattle.board.proofs.Whole.{done-stepped}
 use Rattle.listing.specs.declared.shortcuts.Change.{Change}
 use Rattle.listing.specs.declared.shortcuts.GroupChange.{GroupChange}
-use Rattle.listing.specs.Shortcuts.{signalKind, kindOf, valueOf, takes, ticks, Kept, Done, DoneGroup}
+use Rattle.listing.specs.Shortcuts.{aheadEvent, takes, ticks, Kept, Done, DoneGroup}
 
 -- ---- The states of a run
 
@@ -68,37 +67,13 @@ group-not-done h = record { stepped = λ z. absurd (false≢true (sym h ∙ z));
 
 -- ---- Which event it is
 
-pub load-event : (e : Event) → kindOf e ≡ 1 → _≡_ {A = Event} e (Write 0x18 (valueOf e))
-unfolding kindOf valueOf signalKind
-load-event (PowerUp x) h = absurd (omega arith)
-load-event (Write o v) h = go (eqb o 0x18) refl h
-  where
-    go : (t : Bool) → eqb o 0x18 ≡ t → _≡_ {A = ℕ} (cond t 1 0) 1 → _≡_ {A = Event} (Write o v) (Write 0x18 v)
-    go true e z = ap (λ (n : ℕ). Write n v) (eqb-true o 0x18 e)
-    go false e z = absurd (omega arith)
-load-event (Read o) h = absurd (omega arith)
-load-event (signal Tick) h = absurd (omega arith)
-load-event (signal Outside) h = absurd (omega arith)
-load-event (signal Trigger) h = absurd (omega arith)
-load-event (signal Passed) h = absurd (omega arith)
-load-event (signal Failed) h = absurd (omega arith)
-load-event (signal Settled) h = absurd (omega arith)
+pub load-ahead : (kind v : ℕ) → eqb kind 1 ≡ true → _≡_ {A = Event} (aheadEvent kind v) (Write 0x18 v)
+unfolding aheadEvent
+load-ahead kind v h = cond-true _ _ _ h
 
-pub tick-event : (e : Event) → kindOf e ≡ 2 → _≡_ {A = Event} e (signal Tick)
-unfolding kindOf signalKind
-tick-event (PowerUp x) h = absurd (omega arith)
-tick-event (Write o v) h = go (eqb o 0x18) h
-  where
-    go : (t : Bool) → _≡_ {A = ℕ} (cond t 1 0) 2 → _≡_ {A = Event} (Write o v) (signal Tick)
-    go true z = absurd (omega arith)
-    go false z = absurd (omega arith)
-tick-event (Read o) h = absurd (omega arith)
-tick-event (signal Tick) h = refl
-tick-event (signal Outside) h = absurd (omega arith)
-tick-event (signal Trigger) h = absurd (omega arith)
-tick-event (signal Passed) h = absurd (omega arith)
-tick-event (signal Failed) h = absurd (omega arith)
-tick-event (signal Settled) h = absurd (omega arith)
+pub tick-ahead : (kind v : ℕ) → kind ≡ 2 → _≡_ {A = Event} (aheadEvent kind v) (signal Tick)
+unfolding aheadEvent
+tick-ahead kind v h = rw h
 
 -- ---- Events that read nothing and leave size, request and selection alone
 

@@ -4,6 +4,7 @@ pub mod Numbers
 pub mod LineParts
 pub mod Lengths
 pub mod Body
+pub mod Standing
 pub mod Writing
 pub mod Answers
 pub mod Unique

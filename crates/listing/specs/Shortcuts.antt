@@ -1,5 +1,5 @@
 -- Events that the loop over a session does at once, and what of the board they change. For the code.
---   kindOf e        1 a write to 18h, 2 a tick, 0 any other event; valueOf e: the value of a write
+--   aheadEvent k v  the event ahead, by its kind and its value
 --   takes b d       the board b, of d values, stores the next load, and that changes its ring alone
 --   ticks c         a tick is accepted
 --   boardOf b r     the board b with what is new in r
@@ -11,10 +11,9 @@ use mathlib.Core.Bool.{Bool, true, false, not, cond}
 use mathlib.Core.List.{List, [], _∷_}
 use lib.Dec.{eqb, leb, ltb}
 use lib.ListN.{set}
-use Rattle.rules.specs.declared.Signal.{Signal}
-use Rattle.rules.specs.declared.Signal.the-variants.{Tick, Outside, Trigger, Passed, Failed, Settled}
+use Rattle.rules.specs.declared.Signal.the-variants.{Tick}
 use Rattle.rules.specs.declared.Event.{Event}
-use Rattle.rules.specs.declared.Event.the-variants.{PowerUp, Write, Read, Signal as signal}
+use Rattle.rules.specs.declared.Event.the-variants.{Write, Signal as signal}
 use Rattle.rules.specs.declared.Core.{Core}
 use Rattle.rules.specs.declared.Board.{Board}
 use Rattle.rules.specs.Bits.{all}
@@ -29,25 +28,9 @@ use Rattle.listing.specs.declared.shortcuts.GroupChange.{GroupChange}
 
 -- ---- Which events
 
-unfoldable pub signalKind : Signal → ℕ
-signalKind Tick = 2
-signalKind Outside = 0
-signalKind Trigger = 0
-signalKind Passed = 0
-signalKind Failed = 0
-signalKind Settled = 0
-
-unfoldable pub kindOf : Event → ℕ
-kindOf (PowerUp x) = 0
-kindOf (Write o v) = cond (eqb o 0x18) 1 0
-kindOf (Read o) = 0
-kindOf (signal x) = signalKind x
-
-unfoldable pub valueOf : Event → ℕ
-valueOf (PowerUp x) = 0
-valueOf (Write o v) = v
-valueOf (Read o) = 0
-valueOf (signal x) = 0
+-- what `Ahead` tells: 1 a write of v to 18h, 2 a tick
+unfoldable pub aheadEvent : ℕ → ℕ → Event
+aheadEvent kind v = cond (eqb kind 1) (Write 0x18 v) (signal Tick)
 
 -- No interrupt is selected, so that no edge can come of it; the active buffer is the whole one.
 unfoldable pub takes : Board → ℕ → Bool

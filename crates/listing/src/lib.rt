@@ -3,6 +3,7 @@ ghost use Rattle.listing.specs.Promises.{Lists};
 use crate::lines::put_too_long;
 use crate::whole::put_listing;
 
+mod ahead;
 mod lines;
 mod pieces;
 mod shortcuts;

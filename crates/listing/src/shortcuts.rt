@@ -2,13 +2,13 @@
 // change: the loop over a session then need not hand the whole record to `step` and back.
 ghost use Prim.Native.Nat.{_<_};
 ghost use mathlib.Core.Path.{_≡_};
-ghost use mathlib.Core.Bool.{true, false, cond};
-ghost use lib.Dec.{eqb};
+ghost use mathlib.Core.Logic.{_≢_};
+ghost use mathlib.Core.Bool.{true, false};
 ghost use Rattle.rules.specs.Record.{depth};
 ghost use Rattle.rules.specs.Laws.Soundness.{Stands};
 ghost use Rattle.rules.specs.declared.Event.the-variants.{Write as write, Signal as signal};
 ghost use Rattle.rules.specs.declared.Signal.the-variants.{Tick as tick};
-ghost use Rattle.listing.specs.Shortcuts.{signalKind, kindOf, valueOf, takes, ticks, Kept, Done, DoneGroup};
+ghost use Rattle.listing.specs.Shortcuts.{aheadEvent, takes, ticks, Kept, Done, DoneGroup};
 use moves::load;
 use moves::take;
 use moves::take_group;
@@ -16,10 +16,8 @@ use record::depth;
 use rules::Board;
 use rules::Burst;
 use rules::Core;
-use rules::Event;
 use rules::Load;
 use rules::Ring;
-use rules::Signal;
 
 // What an event that was done at once changed, and its answers; the level is that of the channel. One that was not is left to `step`.
 pub(crate) struct Change {
@@ -42,51 +40,6 @@ pub(crate) struct GroupChange {
     pub burst: Burst,
     pub load: Load,
     pub ring: Ring,
-}
-
-pub(crate) fn signal_kind(x: Signal) -> u32
-    ensures { λ r. ⌜ r ≡ signalKind x ⌝ }
-{
-    match x {
-        Signal::Tick => 2,
-        Signal::Outside => 0,
-        Signal::Trigger => 0,
-        Signal::Passed => 0,
-        Signal::Failed => 0,
-        Signal::Settled => 0,
-    }
-}
-
-pub(crate) fn write_kind(o: u32) -> u32
-    ensures { λ r. ⌜ r ≡ cond (eqb o 0x18) 1 0 ⌝ }
-{
-    if o == 24 {
-        return 1;
-    }
-    0
-}
-
-// 1 a write to 18h, 2 a tick, 0 any other event.
-pub(crate) fn kind_of(e: Event) -> u32
-    ensures { λ r. ⌜ r ≡ kindOf e ⌝ }
-{
-    match e {
-        Event::PowerUp(_) => 0,
-        Event::Write { offset, value: _ } => write_kind(offset),
-        Event::Read { offset: _ } => 0,
-        Event::Signal(x) => signal_kind(x),
-    }
-}
-
-pub(crate) fn value_of(e: Event) -> u32
-    ensures { λ r. ⌜ r ≡ valueOf e ⌝ }
-{
-    match e {
-        Event::PowerUp(_) => 0,
-        Event::Write { offset: _, value } => value,
-        Event::Read { offset: _ } => 0,
-        Event::Signal(_) => 0,
-    }
 }
 
 // The nesting and the last `true`, here and below, are those of `all` over the definition's list: so the two compute alike.
@@ -175,19 +128,18 @@ pub(crate) fn undone(b: Board) -> Change
     }
 }
 
-// An event on a board of a run, if it is one of these.
-pub(crate) fn shortcut(b: Board, memory: &mut [u32], e: Event) -> Change
+// The event ahead on a board of a run, if it is one of these.
+pub(crate) fn shortcut(b: Board, memory: &mut [u32], kind: u32, value: u32) -> Change
     requires { ⌜ Kept (record { board = b; memory = now memory }) ⌝ }
-    ensures { λ r. ⌜ Done b (now (memory .entry)) e r (now (memory .exit)) ⌝ }
+    ensures { λ r. ⌜ Done b (now (memory .entry)) (aheadEvent kind value) r (now (memory .exit)) × (r .done ≡ true → kind ≢ 0) ⌝ }
 {
     if !b.core.powered {
         return undone(b);
     }
-    let kind = kind_of(e);
     let core = b.core;
     let d = depth(b);
     if (kind == 1) & takes(b, d) {
-        return stored(b, d, value_of(e), memory);
+        return stored(b, d, value, memory);
     }
     if (kind == 2) & ticks(core) {
         return ticked(b, d, memory);
@@ -234,15 +186,14 @@ pub(crate) fn group_undone(b: Board) -> GroupChange
     }
 }
 
-// A tick of simultaneous mode on a board of a run.
-pub(crate) fn group_shortcut(b: Board, memory: &mut [u32], e: Event) -> GroupChange
+// The tick ahead on a board of a run, in simultaneous mode.
+pub(crate) fn group_shortcut(b: Board, memory: &mut [u32], kind: u32) -> GroupChange
     requires { ⌜ Kept (record { board = b; memory = now memory }) ⌝ }
-    ensures { λ r. ⌜ DoneGroup b (now (memory .entry)) e r (now (memory .exit)) ⌝ }
+    ensures { λ r. ⌜ DoneGroup b (now (memory .entry)) (signal tick) r (now (memory .exit)) × (r .done ≡ true → kind ≡ 2) ⌝ }
 {
     if !b.core.powered {
         return group_undone(b);
     }
-    let kind = kind_of(e);
     let core = b.core;
     if (kind == 2) & ticks(core) {
         return group_ticked(b, depth(b), memory);

@@ -4,6 +4,7 @@ ghost use mathlib.Core.Path.{_≡_};
 ghost use lib.ListN.{length};
 ghost use Rattle.listing.specs.Pieces.{Put};
 ghost use Rattle.listing.specs.Listing.{listing, left};
+use crate::ahead::ahead_at;
 use crate::lines::put_done;
 use crate::lines::put_heading;
 use crate::lines::put_line;
@@ -45,41 +46,47 @@ pub(crate) fn put_listing(s: &[u8], memory: &mut [u32], out: &mut [u8]) -> usize
     let mut place: usize = 0;
     let mut number: u32 = 1;
     loop {
+        let ahead = ahead_at(s, place);
+        core.outputs = outputs;
+        let change = shortcut(
+            whole(core, size, request, ring),
+            memory,
+            ahead.kind,
+            ahead.value,
+        );
+        if change.done {
+            let k = change.channel;
+            outputs.levels[k] = change.level;
+            outputs.cursor = change.cursor;
+            let burst = change.burst;
+            core.burst = burst;
+            let loading = change.load;
+            core.load = loading;
+            let after = change.ring;
+            ring = after;
+            at = put_done(out, at, number, change.moved, change.fate, ring.count);
+            number += 1;
+            place = ahead.next;
+            continue;
+        }
+        let group = group_shortcut(whole(core, size, request, ring), memory, ahead.kind);
+        if group.done {
+            let levels = group.levels;
+            outputs.levels = levels;
+            let burst = group.burst;
+            core.burst = burst;
+            let loading = group.load;
+            core.load = loading;
+            let after = group.ring;
+            ring = after;
+            at = put_done(out, at, number, group.moved, 0, ring.count);
+            number += 1;
+            place = ahead.next;
+            continue;
+        }
         let item = read_at(s, place);
         match item {
             Item::Got(e, next) => {
-                core.outputs = outputs;
-                let change = shortcut(whole(core, size, request, ring), memory, e);
-                if change.done {
-                    let k = change.channel;
-                    outputs.levels[k] = change.level;
-                    outputs.cursor = change.cursor;
-                    let burst = change.burst;
-                    core.burst = burst;
-                    let loading = change.load;
-                    core.load = loading;
-                    let after = change.ring;
-                    ring = after;
-                    at = put_done(out, at, number, change.moved, change.fate, ring.count);
-                    number += 1;
-                    place = next;
-                    continue;
-                }
-                let group = group_shortcut(whole(core, size, request, ring), memory, e);
-                if group.done {
-                    let levels = group.levels;
-                    outputs.levels = levels;
-                    let burst = group.burst;
-                    core.burst = burst;
-                    let loading = group.load;
-                    core.load = loading;
-                    let after = group.ring;
-                    ring = after;
-                    at = put_done(out, at, number, group.moved, 0, ring.count);
-                    number += 1;
-                    place = next;
-                    continue;
-                }
                 let r = step(whole(core, size, request, ring), memory, e);
                 let answer = r.answer;
                 let after = r.board;

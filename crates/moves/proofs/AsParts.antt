@@ -1,20 +1,18 @@
 -- What `take` tells of a clock of sequential mode, and `take_group` of one of simultaneous mode, is what the rules say of it.
-use Prim.Native.Nat.{ℕ, _+_, _<_, _≤_}
-use mathlib.Core.Path.{_≡_, refl, sym, ap, _∙_}
+use Prim.Native.Nat.{ℕ, _+_}
+use mathlib.Core.Path.{_≡_, sym, ap, _∙_}
 use mathlib.Core.Logic.{_≢_}
 use mathlib.Core.Bool.{true, false, not}
 use mathlib.Core.List.{List}
 use native.Mathlib.Omega.{arith}
 use borrow.Author.Tests.{not-true}
-use lib.ListN.{length, set}
+use lib.ListN.{length}
 use Rattle.rules.specs.declared.Core.{Core}
 use Rattle.rules.specs.declared.Ring.{Ring}
-use Rattle.rules.specs.Bits.{bit}
-use Rattle.rules.specs.Parts.{withBurst, withLoad, withOutputs}
-use Rattle.rules.specs.Clocks.{idle, closed, nextChannel, targets, moving, cursorAfter, coded, burstAfter, loadAfter, clock}
+use Rattle.rules.specs.Clocks.{idle, closed, nextChannel, targets, moving, cursorAfter, clock}
 use Rattle.rules.proofs.Choice.{and-both, cond-true, cond-false}
 use Rattle.rules.proofs.Places.{length-values}
-use Rattle.moves.specs.Ready.{Ready, canClock, canTake, canTakeGroup}
+use Rattle.moves.specs.Ready.{canClock, canTake, canTakeGroup}
 use Rattle.moves.specs.Does.{Does, placeOf, listed}
 use Rattle.moves.specs.Deal.{Dealing, left, dealOne, dealAll}
 use Rattle.moves.specs.Single.{takenOf, coreWith}
