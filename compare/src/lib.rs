@@ -1,6 +1,6 @@
 //! What the three programs share: records, events and answers as numbers, the
 //! second model behind them, random sessions, and session files. Nothing here
-//! needs libbridge.a.
+//! needs the archives.
 
 pub mod crc;
 pub mod damage;

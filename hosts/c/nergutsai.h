@@ -1,6 +1,7 @@
 /* The proved board model for hosts in C: one event on a board record, its sample memory and an event, all as numbers;
  * the rate question of a board record; and the listing of a whole session file.
- * Link with libbridge.a (`rt staticlib bridge`), which is for Linux on x86-64. */
+ * Link with libbridge.a (`rt staticlib bridge`) for the first two and libferry.a (`rt staticlib ferry`) for the last; both are for
+ * Linux on x86-64. */
 #ifndef NERGUTSAI_H
 #define NERGUTSAI_H
 

@@ -1,4 +1,4 @@
-//! Links libbridge.a from $NERGUTSAI_LIB, or from where `rt staticlib bridge` writes it.
+//! Links libbridge.a and libferry.a from $NERGUTSAI_LIB, or from where `rt staticlib` writes them.
 
 use std::env;
 use std::path::PathBuf;
@@ -9,14 +9,16 @@ fn main() {
         Some(folder) => PathBuf::from(folder),
         None => PathBuf::from(env!("CARGO_MANIFEST_DIR")).join("../../target/staticlib"),
     };
-    let archive = folder.join("libbridge.a");
-    if !archive.is_file() {
-        panic!(
-            "no file {}: run `rt staticlib bridge` at the project's root, or set NERGUTSAI_LIB to its folder",
-            archive.display()
-        );
+    for name in ["bridge", "ferry"] {
+        let archive = folder.join(format!("lib{name}.a"));
+        if !archive.is_file() {
+            panic!(
+                "no file {}: run `rt staticlib {name}` at the project's root, or set NERGUTSAI_LIB to its folder",
+                archive.display()
+            );
+        }
+        println!("cargo:rerun-if-changed={}", archive.display());
+        println!("cargo:rustc-link-lib=static={name}");
     }
-    println!("cargo:rerun-if-changed={}", archive.display());
     println!("cargo:rustc-link-search=native={}", folder.display());
-    println!("cargo:rustc-link-lib=static=bridge");
 }

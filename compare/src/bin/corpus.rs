@@ -1,5 +1,5 @@
 //! The frozen corpus: session files of the generator, and the checksums of the
-//! listings that the second model makes of them. It needs no libbridge.a.
+//! listings that the second model makes of them. It needs no archive.
 
 use compare::crc::crc;
 use compare::files::{File, Sort};

@@ -1,3 +1,2 @@
 pub mod Calls
-pub mod Listings
 pub mod Unique

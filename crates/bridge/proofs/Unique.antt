@@ -1,6 +1,6 @@
 -- Any two outcomes that a promise allows are equal.
 use mathlib.Core.Path.{sym, _∙_}
-use Rattle.bridge.specs.Unique.{Called-one, RateCalled-one, ListCalled-one}
+use Rattle.bridge.specs.Unique.{Called-one, RateCalled-one}
 
 pub called-one : Called-one
 called-one row memory event answer n n₂ r r₂ m m₂ a a₂ x y =
@@ -8,7 +8,3 @@ called-one row memory event answer n n₂ r r₂ m m₂ a a₂ x y =
 
 pub rate-called-one : RateCalled-one
 rate-called-one row figures n n₂ f f₂ x y = (x .understood ∙ sym (y .understood), x .figures ∙ sym (y .figures))
-
-pub list-called-one : ListCalled-one
-list-called-one s memory out n n₂ m m₂ o o₂ x y =
-    (x .answer ∙ sym (y .answer), x .memory ∙ sym (y .memory), x .output ∙ sym (y .output))

@@ -1,6 +1,5 @@
 -- A call: a record as a row of 55 numbers, the sample memory, an event as a row of 6, and room for an answer of 4.
 -- A rate question: a record as a row of 55 numbers, and room for 3 figures.
--- A listing: the bytes of a session file, the sample memory, and room for the text.
 use Prim.Native.Nat.{ℕ}
 use mathlib.Core.Path.{_≡_}
 use mathlib.Core.Bool.{_||_, not, cond}
@@ -10,7 +9,6 @@ use lib.ListN.{length}
 use Rattle.rules.specs.Step.{Outcome, step}
 use Rattle.rules.specs.Rates.{rates}
 use Rattle.layout.specs.Layout.{at, boardAt, rowOf}
-use Rattle.listing.specs.Listing.{room}
 use Rattle.bridge.specs.Types.{Answer, Figures}
 use Rattle.bridge.specs.Events.{eventAt}
 
@@ -67,9 +65,3 @@ figuresRow f = f .refusal ∷ f .reference ∷ f .rate ∷ []
 -- a rate question that is not understood leaves the room as it was
 unfoldable pub figuresLeft : List ℕ → List ℕ → List ℕ
 figuresLeft row figures = cond (eqb (rateStatus (length row) (length figures)) 0) (figuresRow (rates (boardAt row))) figures
-
--- ---- The listing
-
--- the first where the output has room for the listing of the file s, else the second
-abbrev pub withRoom : {A : Type 0} → List ℕ → List ℕ → A → A → A
-withRoom s out x y = cond (ltb (length out) (room (length s))) y x

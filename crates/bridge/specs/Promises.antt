@@ -3,9 +3,7 @@ use Prim.Native.Nat.{ℕ}
 use mathlib.Core.Path.{_≡_}
 use mathlib.Core.List.{List}
 use lib.ListN.{length}
-use lib.Seq.{sets}
-use Rattle.listing.specs.Listing.{text, memoryAfter}
-use Rattle.bridge.specs.Calls.{status, left, rateStatus, figuresLeft, withRoom}
+use Rattle.bridge.specs.Calls.{status, left, rateStatus, figuresLeft}
 
 -- nergutsai_event(r, m, e, a) = n, and r, m and a are r′, m′ and a′ afterwards
 pub record Called (r m e a : List ℕ) (n : ℕ) (r′ m′ a′ : List ℕ) : Type 0 where
@@ -18,10 +16,3 @@ pub record Called (r m e a : List ℕ) (n : ℕ) (r′ m′ a′ : List ℕ) : T
 pub record RateCalled (r f : List ℕ) (n : ℕ) (f′ : List ℕ) : Type 0 where
   pub understood : n ≡ rateStatus (length r) (length f)
   pub figures : f′ ≡ figuresLeft r f
-
--- nergutsai_list(s, m, out) = n, and m and out are m′ and out′ afterwards
-pub record ListCalled (s m out : List ℕ) (n : ℕ) (m′ out′ : List ℕ) : Type 0 where
-  pub answer : n ≡ withRoom s out (length (text s m)) 0
-  pub memory : m′ ≡ withRoom s out (memoryAfter s m) m
-  -- the text from the first byte on; what stands past it is as it was
-  pub output : out′ ≡ withRoom s out (sets out 0 (text s m)) out

@@ -2,7 +2,7 @@
 use Prim.Native.Nat.{ℕ}
 use mathlib.Core.Path.{_≡_}
 use mathlib.Core.List.{List}
-use Rattle.bridge.specs.Promises.{Called, RateCalled, ListCalled}
+use Rattle.bridge.specs.Promises.{Called, RateCalled}
 
 abbrev pub Called-one : Type 0
 Called-one =
@@ -14,9 +14,3 @@ abbrev pub RateCalled-one : Type 0
 RateCalled-one =
     (row figures : List ℕ) (n n₂ : ℕ) (f f₂ : List ℕ) → RateCalled row figures n f → RateCalled row figures n₂ f₂
     → (n ≡ n₂) × (f ≡ f₂)
-
-abbrev pub ListCalled-one : Type 0
-ListCalled-one =
-    (s memory out : List ℕ) (n n₂ : ℕ) (m m₂ o o₂ : List ℕ)
-    → ListCalled s memory out n m o → ListCalled s memory out n₂ m₂ o₂
-    → (n ≡ n₂) × (m ≡ m₂) × (o ≡ o₂)

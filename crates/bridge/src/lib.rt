@@ -1,4 +1,4 @@
-// What hosts in Rust and C call: one event, and the rate question, on rows of numbers; the listing of a session file.
+// One event, and the rate question, on rows of numbers, for hosts in Rust and C.
 // A slice is a pointer and then a length on their side (hosts/).
 ghost use mathlib.Core.Path.{_≡_};
 ghost use mathlib.Core.Bool.{cond};
@@ -8,12 +8,10 @@ ghost use Rattle.layout.specs.Layout.{rowOf};
 ghost use Rattle.session.specs.File.{signalOf};
 ghost use Rattle.bridge.specs.Events.{eventAt};
 ghost use Rattle.bridge.specs.Calls.{Fits, status, answerRow};
-ghost use Rattle.bridge.specs.Promises.{Called, RateCalled, ListCalled};
+ghost use Rattle.bridge.specs.Promises.{Called, RateCalled};
 use crate::figures::put_figures;
 use board::step;
 use layout::board_at;
-use listing::Listed;
-use listing::list;
 use rates::rate;
 use rows::put_board;
 use rules::Answer;
@@ -146,16 +144,4 @@ pub extern "C" fn nergutsai_rate(row: &[u32], figures: &mut [u32]) -> u32
     }
     put_figures(rate(board_at(row)), figures);
     0
-}
-
-// The listing of a session file, as so many bytes of text in the output; 0 where the output is too short, and nothing is written.
-#[no_mangle]
-pub extern "C" fn nergutsai_list(file: &[u8], memory: &mut [u32], out: &mut [u8]) -> usize
-    ensures { λ r. ⌜ ListCalled (now (file .entry)) (now (memory .entry)) (now (out .entry)) r (now (memory .exit)) (now (out .exit)) ⌝ }
-{
-    let listed = list(file, memory, out);
-    match listed {
-        Listed::Text(n) => n,
-        Listed::Short(_) => 0,
-    }
 }

@@ -32,6 +32,8 @@ pub(crate) fn whole(core: Core, size: Size, request: bool, ring: Ring) -> Board
     }
 }
 
+// The loop over the session. The parts of the board stand in locals of their own, so that an event that is done at once changes only
+// what it must; the outputs are kept apart from the core, since a level of theirs is written in place.
 pub(crate) fn put_listing(s: &[u8], memory: &mut [u32], out: &mut [u8]) -> usize
     requires { ⌜ (length (now s) ≤ 65536) × (160 + 22 * length (now s) ≤ length (now out)) ⌝ }
     ensures { λ r. ⌜ Put (now (out .entry)) 0 (listing (now (s .entry)) (now (memory .entry))) (now (out .exit)) r × (now (memory .exit) ≡ (left (now (s .entry)) (now (memory .entry))) .memory) ⌝ }

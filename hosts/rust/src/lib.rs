@@ -1,7 +1,7 @@
 //! The proved model of the PC104P-16AO20 for hosts in Rust: a safe wrapper of `nergutsai_event`,
 //! `nergutsai_rate` and `nergutsai_list`.
 //!
-//! The archive libbridge.a is for Linux on x86-64.
+//! The archives libbridge.a and libferry.a are for Linux on x86-64.
 
 /// A board record as the model lays it out (hosts/c/nergutsai.h names each number).
 /// Any 55 numbers may be handed in; a damaged record is refused by its own number.

@@ -1,5 +1,5 @@
 //! Compares the listings of whole session files: the second model's with those
-//! of libbridge.a.
+//! of libferry.a.
 
 mod lent;
 mod shorten;
@@ -14,7 +14,7 @@ use std::process::exit;
 use tally::Tally;
 
 const HELP: &str = "\
-sessions - the second model against libbridge.a, by whole session files
+sessions - the second model against libferry.a, by whole session files
 
 usage: sessions [--seed S] [--sessions N] [--only INDEX] [--coverage] [--help]
 

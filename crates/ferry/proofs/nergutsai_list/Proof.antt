@@ -1,9 +1,9 @@
 -- How many bytes of text there are is what the listing told.
 use mathlib.Core.Path.{ap}
 use borrow.Author.Needs.{needs}
-use Rattle.bridge.proofs.Listings.{bytesOf, list-called}
-use Rattle.bridge.proofs.nergutsai_list.Statement.{statement}
-use Rattle.bridge.proofs.nergutsai_list.Tie as tie
+use Rattle.ferry.proofs.Listings.{bytesOf, list-called}
+use Rattle.ferry.proofs.nergutsai_list.Statement.{statement}
+use Rattle.ferry.proofs.nergutsai_list.Tie as tie
 
 list-requires : tie.Need-list-requires
 list-requires c κs = search needs

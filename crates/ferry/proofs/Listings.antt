@@ -9,7 +9,7 @@ use Rattle.listing.specs.declared.Listed.{Listed}
 use Rattle.listing.specs.declared.Listed.the-variants.{Text, Short}
 use Rattle.listing.specs.Listing.{text, room}
 use Rattle.listing.specs.Promises.{Lists}
-use Rattle.bridge.specs.Promises.{ListCalled}
+use Rattle.ferry.specs.Promises.{ListCalled}
 
 unfoldable pub bytesOf : Listed → ℕ
 bytesOf (Text n) = n
