@@ -12,7 +12,6 @@ mod flags;
 mod interrupt;
 mod listing;
 mod queue;
-mod rates;
 mod record;
 mod refuse;
 mod registers;
@@ -20,5 +19,4 @@ mod session;
 
 pub use event::{step, Answer, Event};
 pub use listing::list;
-pub use rates::rates;
 pub use record::Record;

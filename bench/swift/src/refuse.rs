@@ -19,10 +19,6 @@ pub(crate) const READ_ONLY: u32 = 5;
 pub(crate) const CALIBRATING: u32 = 6;
 /// "7 | calibration end while none runs, or settled while not settling"
 pub(crate) const NOT_RUNNING: u32 = 7;
-/// "8 | rate asked with divisor 0"
-pub(crate) const DIVISOR: u32 = 8;
-/// "9 | rate asked with EXTERNAL CLOCK set"
-pub(crate) const EXTERNAL: u32 = 9;
 /// "10 | session file empty or its first byte not 01"
 pub(crate) const NO_SESSION: u32 = 10;
 /// "11 | file ends inside a record"
