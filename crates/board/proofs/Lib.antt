@@ -2,9 +2,8 @@
 pub mod Choices
 pub mod Conditions
 pub mod Numbers
-pub mod Accepted
-pub mod Sobering
-pub mod Signals
+pub mod Losing
+pub mod Planning
 pub mod Standing
 pub mod Whole
 pub mod Unique

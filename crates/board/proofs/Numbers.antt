@@ -1,7 +1,7 @@
 -- The bits of a field as the code takes them, and the number of a list of bits as it reckons that: bit by bit from the end.
 use Prim.Native.Nat.{ℕ, zero, suc, _+_, _-_, _*_, _/_, _%_, _^_, _≤_, _<_}
-use mathlib.Core.Path.{_≡_, refl, ap, _∙_}
-use mathlib.Core.Bool.{Bool, true, false, cond}
+use mathlib.Core.Path.{_≡_, ap, _∙_}
+use mathlib.Core.Bool.{Bool, false}
 use mathlib.Core.List.{List, [], _∷_, _++_}
 use native.Mathlib.Nat.{div-one, pow-suc}
 use native.Mathlib.Omega.{arith}
@@ -28,11 +28,6 @@ bitsOf-4 v =
     rw (div-one (v / 2 / 2 / 2), div-one (v / 2 / 2), div-one (v / 2), div-one v, d, e)
 
 -- ---- The number of the bits from one on
-
-pub cond-flag : (t : Bool) → cond t 1 0 ≡ flag t
-unfolding flag
-cond-flag true = refl
-cond-flag false = refl
 
 number-lt : (bs : List Bool) → number bs < 2 ^ length bs
 unfolding number

@@ -7,7 +7,8 @@ use Rattle.rules.specs.Record.{State, depthOf, depth}
 use Rattle.rules.specs.Laws.Soundness.{Stands}
 use Rattle.rules.proofs.Sizes.{channels-le}
 use Rattle.rules.proofs.Soundness.{sound-core}
-use Rattle.moves.specs.Ready.{Ready, Sober}
+use Rattle.moves.specs.Ready.{Ready}
+use Rattle.channels.specs.Serving.{Sober}
 use Rattle.board.specs.Parts.{Sized}
 
 depth-small : (d : ℕ) → d ≤ 15 → depthOf d ≤ 262144

@@ -12,7 +12,7 @@ use Rattle.rules.specs.Refusals.{refusal}
 use Rattle.rules.specs.Step.{Outcome, played, placed, reading, refused, boardBefore, withRequest, done, step}
 use Rattle.rules.specs.Laws.Refusals.{Ordinary}
 use Rattle.rules.proofs.Steps.{step-done, step-refused}
-use Rattle.rules.proofs.Lasting.{done-stands}
+use Rattle.laws.proofs.Lasting.{done-stands}
 use Rattle.rules.proofs.Refusals.{refusal-stands}
 use Rattle.board.specs.Types.{Board, Event, powerUp, write, read, signal}
 use Rattle.board.specs.declared.Reply.{Reply}

@@ -6,15 +6,12 @@ use rules::Answer;
 use rules::Board;
 use rules::Event;
 
-mod choose;
-mod clocks;
+mod carry;
 mod interrupt;
-mod loads;
 mod registers;
 mod sizes;
 mod states;
 mod steps;
-mod writes;
 
 // What an event answers, and the record after it.
 pub struct Reply {

@@ -4,8 +4,8 @@ ghost use mathlib.Core.Path.{_≡_};
 ghost use Rattle.board.specs.Parts.{Sized};
 ghost use Rattle.rules.specs.Bits.{number};
 ghost use Rattle.rules.specs.Registers.{readAt};
-use crate::choose::pick;
 use crate::sizes::active_size;
+use crate::states::bit_of;
 use crate::states::closed;
 use rules::Board;
 
@@ -17,7 +17,7 @@ pub(crate) fn number_of(bits: [bool; 18]) -> u32
     let mut i = 18;
     while 0 < i {
         i -= 1;
-        n = pick(bits[i], 1, 0) + 2 * n;
+        n = bit_of(bits[i]) + 2 * n;
     }
     n
 }

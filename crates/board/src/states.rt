@@ -1,6 +1,7 @@
-// What is accepted, and whether loading is closed, as tests of the core.
+// Whether loading is closed, and a flag as a bit.
 ghost use mathlib.Core.Path.{_≡_};
-ghost use Rattle.rules.specs.Clocks.{closed, tickAccepted, clockAccepted, triggerAccepted};
+ghost use Rattle.rules.specs.Bits.{flag};
+ghost use Rattle.rules.specs.Clocks.{closed};
 use rules::Core;
 
 // 01: "closed = circular and not opened"
@@ -10,23 +11,11 @@ pub(crate) fn closed(c: Core) -> bool
     c.mode.circular & !c.load.opened
 }
 
-pub(crate) fn tick_accepted(c: Core) -> bool
-    ensures { λ r. ⌜ r ≡ tickAccepted c ⌝ }
+pub(crate) fn bit_of(t: bool) -> u32
+    ensures { λ r. ⌜ r ≡ flag t ⌝ }
 {
-    c.mode.enabled & (!c.mode.external | c.clock.alt) & !c.calibration.running
-}
-
-pub(crate) fn clock_accepted(c: Core) -> bool
-    ensures { λ r. ⌜ r ≡ clockAccepted c ⌝ }
-{
-    c.mode.enabled
-        & c.mode.external
-        & !c.clock.alt
-        & (c.mode.external & !c.clock.settling & !c.calibration.running)
-}
-
-pub(crate) fn trigger_accepted(c: Core) -> bool
-    ensures { λ r. ⌜ r ≡ triggerAccepted c ⌝ }
-{
-    c.control.bursts & !c.control.barred & !c.burst.running & !c.calibration.running
+    if t {
+        return 1;
+    }
+    0
 }

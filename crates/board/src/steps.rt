@@ -1,30 +1,24 @@
 // An event that is done, and one that is refused.
 ghost use mathlib.Core.Path.{_≡_};
-ghost use Rattle.moves.specs.Does.{Does};
 ghost use Rattle.board.specs.Parts.{Sized};
 ghost use Rattle.board.specs.Promises.{Stepped};
-ghost use Rattle.rules.specs.Laws.Soundness.{Stands};
 ghost use Rattle.rules.specs.Laws.Refusals.{Ordinary};
-ghost use Rattle.rules.specs.Record.{depth};
 ghost use Rattle.rules.specs.Refusals.{refusal};
 ghost use Rattle.rules.specs.Size.{sizeAfter};
 ghost use Rattle.rules.specs.Interrupt.{requestHeld};
-ghost use Rattle.rules.specs.Step.{played, reading};
+ghost use Rattle.rules.specs.Step.{reading};
 use crate::Reply;
+use crate::carry::carry;
 use crate::interrupt::request_after;
 use crate::interrupt::request_held;
 use crate::interrupt::size_after;
-use crate::loads::initialised;
-use crate::loads::on_signal;
-use crate::loads::on_write;
 use crate::registers::read_at;
-use crate::sizes::active_size;
 use moves::Played;
+use plans::plan_of;
 use record::depth;
 use rules::Answer;
 use rules::Board;
 use rules::Event;
-use rules::Options;
 
 // 01: "On refusal the last three are 0, the given record comes back"
 pub(crate) fn refused(n: u32, b: Board) -> Reply
@@ -39,40 +33,6 @@ pub(crate) fn refused(n: u32, b: Board) -> Reply
     Reply {
         answer: answer,
         board: b,
-    }
-}
-
-// What the rules make of an event that is not refused.
-pub(crate) fn played(b: Board, memory: &mut [u32], e: Event) -> Played
-    requires { ⌜ (Ordinary e → Stands (record { board = b; memory = now memory })) ⌝ }
-    ensures { λ r. ⌜ Does (depth b) (played (record { board = b; memory = now (memory .entry) }) e) (b .ring) (now (memory .entry)) r (now (memory .exit)) ⌝ }
-{
-    let core = b.core;
-    let ring = b.ring;
-    match e {
-        Event::PowerUp(x) => {
-            initialised(Options {
-                range: x.range,
-                filter: x.filter,
-                kit: x.kit,
-                firmware: x.firmware,
-            })
-        }
-        Event::Write { offset, value } => {
-            let d = depth(b);
-            let size = active_size(b.size);
-            on_write(core, size, ring, d, offset, value, memory)
-        }
-        Event::Read { offset: _ } => Played {
-            core: core,
-            ring: ring,
-            moved: 0,
-            fate: 0,
-        },
-        Event::Signal(x) => {
-            let d = depth(b);
-            on_signal(core, ring, d, x, memory)
-        }
     }
 }
 
@@ -113,7 +73,10 @@ pub(crate) fn done(b: Board, memory: &mut [u32], e: Event) -> Reply
     ensures { λ r. ⌜ Stepped b (now (memory .entry)) e r (now (memory .exit)) ⌝ }
 {
     let value = register(b, e);
-    let p = played(b, memory, e);
+    let core = b.core;
+    let size = b.size;
+    let ring = b.ring;
+    let p = carry(plan_of(core, e), size, ring, depth(b), memory);
     let mut after = board_before(b, p, e);
     let request = request_after(e, b, after);
     after.request = request;

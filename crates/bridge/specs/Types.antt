@@ -4,3 +4,4 @@ pub use Rattle.rules.specs.declared.Event.the-variants.{PowerUp as powerUp, Wri
 pub use Rattle.rules.specs.declared.Answer.{Answer}
 pub use Rattle.rules.specs.declared.Figures.{Figures}
 pub use Rattle.rules.specs.declared.Board.{Board}
+pub use Rattle.rules.specs.declared.Settings.{Settings}

@@ -5,21 +5,18 @@ ghost use mathlib.Core.Bool.{cond};
 ghost use lib.Dec.{eqb};
 ghost use lib.ListN.{length};
 ghost use Rattle.layout.specs.Layout.{rowOf};
-ghost use Rattle.session.specs.File.{signalOf};
-ghost use Rattle.bridge.specs.Events.{eventAt};
 ghost use Rattle.bridge.specs.Calls.{Fits, status, answerRow};
 ghost use Rattle.bridge.specs.Promises.{Called, RateCalled};
+use crate::events::event_at;
 use crate::figures::put_figures;
+use board::Reply;
 use board::step;
 use layout::board_at;
 use rates::rate;
 use rows::put_board;
-use rules::Answer;
 use rules::Board;
-use rules::Event;
-use rules::Settings;
-use rules::Signal;
 
+mod events;
 mod figures;
 
 // Which of the reasons not to look at a call comes first, 0 if none does.
@@ -35,66 +32,11 @@ fn status_of(row: usize, event: &[u32], answer: usize) -> u32
     if answer != 4 {
         return 3;
     }
-    if (event[0] < 1) | (9 < event[0]) {
+    let kind = event[0];
+    if (kind < 1) | (9 < kind) {
         return 4;
     }
     0
-}
-
-fn signal_of(kind: u32) -> Signal
-    ensures { λ r. ⌜ r ≡ signalOf kind ⌝ }
-{
-    if kind == 4 {
-        return Signal::Tick;
-    }
-    if kind == 5 {
-        return Signal::Outside;
-    }
-    if kind == 6 {
-        return Signal::Trigger;
-    }
-    if kind == 7 {
-        return Signal::Passed;
-    }
-    if kind == 8 {
-        return Signal::Failed;
-    }
-    Signal::Settled
-}
-
-fn event_at(event: &[u32]) -> Event
-    requires { ⌜ length (now event) ≡ 6 ⌝ }
-    ensures { λ r. ⌜ r ≡ eventAt (now (event .entry)) ⌝ }
-{
-    if event[0] == 1 {
-        return Event::PowerUp(Settings {
-            fitted: event[1],
-            range: event[2],
-            filter: event[3],
-            kit: event[4],
-            firmware: event[5],
-        });
-    }
-    if event[0] == 2 {
-        return Event::Write {
-            offset: event[1],
-            value: event[2],
-        };
-    }
-    if event[0] == 3 {
-        return Event::Read { offset: event[1] };
-    }
-    Event::Signal(signal_of(event[0]))
-}
-
-fn put_answer(a: Answer, answer: &mut [u32])
-    requires { ⌜ length (now answer) ≡ 4 ⌝ }
-    ensures { λ _. ⌜ now (answer .exit) ≡ answerRow a ⌝ }
-{
-    answer[0] = a.refusal;
-    answer[1] = a.register;
-    answer[2] = a.moved;
-    answer[3] = a.fate;
 }
 
 // 01: "the given record comes back": a refused event leaves the row alone, and does not write it anew.
@@ -105,6 +47,18 @@ fn put_record(refusal: u32, b: Board, row: &mut [u32])
     if refusal == 0 {
         put_board(b, row);
     }
+}
+
+fn put_reply(reply: Reply, row: &mut [u32], answer: &mut [u32])
+    requires { ⌜ (length (now row) ≡ 55) × (length (now answer) ≡ 4) ⌝ }
+    ensures { λ _. ⌜ (now (row .exit) ≡ cond (eqb (reply .answer .refusal) 0) (rowOf (reply .board)) (now (row .entry))) × (now (answer .exit) ≡ answerRow (reply .answer)) ⌝ }
+{
+    let a = reply.answer;
+    answer[0] = a.refusal;
+    answer[1] = a.register;
+    answer[2] = a.moved;
+    answer[3] = a.fate;
+    put_record(a.refusal, reply.board, row);
 }
 
 // One event. Answers 0 where the call was understood, be the event done or refused; else why it was not (specs/Calls.antt).
@@ -121,12 +75,7 @@ pub extern "C" fn nergutsai_event(
     if n != 0 {
         return n;
     }
-    let before = board_at(row);
-    let reply = step(before, memory, event_at(event));
-    let given = reply.answer;
-    let after = reply.board;
-    put_answer(given, answer);
-    put_record(given.refusal, after, row);
+    put_reply(step(board_at(row), memory, event_at(event)), row, answer);
     0
 }
 

@@ -1,25 +1,33 @@
-// Boards of depth 8 to ask. The numbers of an event are its kind and fields, as in a session file.
+// The board on the desk.
+ghost use Rattle.io.specs.Counts.{Counts};
+use crate::desk::Desk;
 use bridge::nergutsai_event;
 
-// The refusal number of an event; the row and the memory are those after it.
-pub(crate) fn refusal(row: &mut [u32], memory: &mut [u32], event: [u32; 6]) -> u32 {
+// A number of the row is set. They are numbered as in crates/layout/specs/Layout.antt.
+pub(crate) fn set(mut desk: Desk) -> Desk {
+    let at = desk.numbers[0];
+    let value = desk.numbers[1];
+    desk.row[(at % 55) as usize] = value;
+    desk
+}
+
+// n, or the length of the memory where n is more.
+fn within(n: usize, memory: &[u32]) -> usize
+    ensures { λ r. ⌜ Counts r (now (memory .entry)) ⌝ }
+{
+    if n < memory.len() { n } else { memory.len() }
+}
+
+// An event, on as much of the memory as is lent.
+pub(crate) fn event(mut desk: Desk) -> Desk {
+    let numbers = desk.numbers;
+    let mut row = desk.row;
+    let mut memory = desk.memory;
     let mut answer = [99u32; 4];
-    nergutsai_event(row, memory, &event, &mut answer);
-    answer[0]
-}
-
-// The row of a board as power-up leaves it: depth 8, twenty channels.
-pub(crate) fn powered() -> [u32; 55] {
-    let mut row = [0u32; 55];
-    let mut memory = [0u32; 8];
-    refusal(&mut row, &mut memory, [1, 0, 1, 0, 2, 16]);
-    row
-}
-
-// The row after a write.
-pub(crate) fn written(before: [u32; 55], offset: u32, value: u32) -> [u32; 55] {
-    let mut row = before;
-    let mut memory = [0u32; 8];
-    refusal(&mut row, &mut memory, [2, offset, value, 0, 0, 0]);
-    row
+    let lent = within(desk.lent as usize, &memory);
+    nergutsai_event(&mut row, &mut memory[..lent], &numbers, &mut answer);
+    desk.row = row;
+    desk.memory = memory;
+    desk.refusal = answer[0];
+    desk
 }

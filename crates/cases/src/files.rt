@@ -1,4 +1,4 @@
-// Each file refusal at its place, and files that end well.
+// How a session file ends.
 use crate::print;
 use session::End;
 use session::Fault;
@@ -12,11 +12,7 @@ fn number(why: Fault) -> u32 {
     }
 }
 
-fn ends(text: &[u8], file: &[u8]) {
-    let mut memory = [0u32; 8];
-    let r = run::run(file, &mut memory);
-    print::name(text);
-    let end = r.end;
+fn ended(end: End) {
     match end {
         End::File => print::field(0),
         End::Refused(why, place) => {
@@ -24,38 +20,13 @@ fn ends(text: &[u8], file: &[u8]) {
             print::field((place % 65537) as u32);
         }
     }
-    print::end();
 }
 
-fn versions() {
-    ends(b"an empty file", &[]);
-    ends(b"version 2", &[2]);
-    ends(b"version 1 and no record", &[1]);
-}
-
-fn cuts() {
-    ends(b"half a length", &[1, 0]);
-    ends(b"a length and no kind", &[1, 0, 1]);
-    ends(b"a short body after a tick", &[1, 0, 1, 4, 0, 2, 3]);
-}
-
-fn lengths() {
-    ends(b"length 0", &[1, 0, 1, 4, 0, 0]);
-    ends(b"length 0 at the very end", &[1, 0, 0]);
-    ends(b"a tick of two bytes", &[1, 0, 2, 4, 0]);
-    ends(b"a read of one byte", &[1, 0, 1, 3]);
-}
-
-fn kinds() {
-    ends(b"kind 0", &[1, 0, 1, 0]);
-    ends(b"kind 10 after two ticks", &[1, 0, 1, 4, 0, 1, 4, 0, 1, 10]);
-    ends(b"kind 10 of a wrong length", &[1, 0, 2, 10, 0]);
-    ends(b"three ticks", &[1, 0, 1, 4, 0, 1, 4, 0, 1, 4]);
-}
-
-pub(crate) fn all() {
-    versions();
-    cuts();
-    lengths();
-    kinds();
+// The first `count` bytes are the file.
+pub(crate) fn ends(bytes: [u8; 16], count: u8) {
+    let mut memory = [0u32; 8];
+    let n = io::count(count as isize, &bytes);
+    let r = run::run(&bytes[..n], &mut memory);
+    let end = r.end;
+    ended(end);
 }

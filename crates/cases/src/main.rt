@@ -1,17 +1,27 @@
-// 01's cases that are run and compared, and more: what each prints is held to the file `stdout`. Boards are rows of 55 numbers, as
-// hosts have them: so a record can be handed in with any one number broken.
+// 01's cases that are run and compared, and more: what each prints is held to the file `stdout`. The cases are the lines of the file
+// `stdin`, so that one more is no code more. Nothing is promised of what is written; every function is proved safe.
+use desk::cleared;
+use line::read;
+
+mod acts;
 mod board;
+mod desk;
 mod figures;
 mod files;
+mod line;
 mod print;
-mod refusals;
-mod ring;
-mod soundness;
+
+fn work(text: &[u8]) {
+    let mut desk = cleared(false);
+    let mut i: usize = 0;
+    while i < text.len() {
+        desk = read(desk, text[i]);
+        i += 1;
+    }
+}
 
 fn main() {
-    figures::all();
-    refusals::all();
-    soundness::all();
-    files::all();
-    ring::all();
+    let mut text = [0u8; 16384];
+    let n = io::read_full(0, &mut text);
+    work(&text[..n]);
 }

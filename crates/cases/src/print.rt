@@ -1,6 +1,7 @@
-// A case's line: its name, and then numbers.
-pub(crate) fn name(text: &[u8]) {
-    io::write_all(1, text);
+// What the program writes: the letters of a name, and numbers with a blank before each.
+pub(crate) fn letter(c: u8) {
+    let one = [c];
+    io::write_all(1, &one);
 }
 
 pub(crate) fn field(n: u32) {
@@ -8,12 +9,10 @@ pub(crate) fn field(n: u32) {
     io::print_decimal(1, n as u64);
 }
 
-pub(crate) fn end() {
-    io::write_all(1, b"\n");
-}
-
-pub(crate) fn one(text: &[u8], n: u32) {
-    name(text);
-    field(n);
-    end();
+// An entry of a row or a memory.
+pub(crate) fn entry(entries: &[u32], at: u32) {
+    let i = at as usize;
+    if i < entries.len() {
+        field(entries[i]);
+    }
 }

@@ -1,11 +1,11 @@
-// What the program writes: a line for each session, and one where the input is cut. Both answer whether to go on.
+// What the program writes: a line for each session.
 
 fn capital(d: u32) -> u8 {
     let digits = b"0123456789ABCDEF";
     digits[(d % 16) as usize]
 }
 
-// The number of a session, and the checksum of its listing in eight hex digits.
+// The number of a session, and the checksum of its listing in eight hex digits. Answers whether it could be written.
 pub(crate) fn line(number: u64, sum: u32) -> bool {
     io::print_decimal(1, number);
     let text = [
@@ -21,12 +21,4 @@ pub(crate) fn line(number: u64, sum: u32) -> bool {
         b'\n',
     ];
     io::write_all(1, &text)
-}
-
-// The session of this number cannot be had whole. It is the last line.
-pub(crate) fn cut(number: u64) -> bool {
-    io::write_all(1, b"CUT ");
-    io::print_decimal(1, number);
-    io::write_all(1, b"\n");
-    false
 }

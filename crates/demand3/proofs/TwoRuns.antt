@@ -31,10 +31,10 @@ use Rattle.rules.specs.Laws.Own.{ownNumber}
 use Rattle.demand3.specs.Demand3.{NeverLower, same, deeper, larger, PowerUpAccepted, NoQuarter}
 use Rattle.rules.proofs.Own.{refusal-own}
 use Rattle.rules.proofs.Sizes.{_⊑_, full-mono}
-use Rattle.rules.proofs.Places.{onList}
-use Rattle.rules.proofs.Steps.{step-done, step-refused, refusal-answered, stored-length, Fit, fit-sound, Kept, kept}
-use Rattle.rules.proofs.Lasting.{up-stands}
-use Rattle.rules.proofs.Soundness.{stands-fit}
+use Rattle.laws.proofs.Places.{onList}
+use Rattle.rules.proofs.Steps.{step-done, step-refused, refusal-answered, stored-length}
+use Rattle.laws.proofs.Kept.{Fit, fit-sound, stands-fit, Kept, kept}
+use Rattle.laws.proofs.Lasting.{up-stands}
 use Rattle.demand3.proofs.FullOnly.{play-same}
 use Rattle.demand3.proofs.Lower.{OneToRules, one-to-rules}
 

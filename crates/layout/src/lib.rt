@@ -44,12 +44,12 @@ fn control_at(row: &[u32]) -> Control
     ensures { λ r. ⌜ r ≡ controlAt (now (row .entry)) ⌝ }
 {
     Control {
-        bursts: !(row[7] == 0),
-        ground: !(row[8] == 0),
-        binary: !(row[9] == 0),
-        differential: !(row[10] == 0),
-        barred: !(row[11] == 0),
-        simultaneous: !(row[12] == 0),
+        bursts: row[7] != 0,
+        ground: row[8] != 0,
+        binary: row[9] != 0,
+        differential: row[10] != 0,
+        barred: row[11] != 0,
+        simultaneous: row[12] != 0,
         selection: row[13],
     }
 }
@@ -59,9 +59,9 @@ fn mode_at(row: &[u32]) -> Mode
     ensures { λ r. ⌜ r ≡ modeAt (now (row .entry)) ⌝ }
 {
     Mode {
-        external: !(row[14] == 0),
-        enabled: !(row[15] == 0),
-        circular: !(row[16] == 0),
+        external: row[14] != 0,
+        enabled: row[15] != 0,
+        circular: row[16] != 0,
     }
 }
 
@@ -70,9 +70,9 @@ fn calibration_at(row: &[u32]) -> Calibration
     ensures { λ r. ⌜ r ≡ calibrationAt (now (row .entry)) ⌝ }
 {
     Calibration {
-        running: !(row[17] == 0),
-        failed: !(row[18] == 0),
-        calibrated: !(row[19] == 0),
+        running: row[17] != 0,
+        failed: row[18] != 0,
+        calibrated: row[19] != 0,
     }
 }
 
@@ -83,8 +83,8 @@ fn clock_at(row: &[u32]) -> Clock
     Clock {
         divisor: row[20],
         nclk: row[21],
-        alt: !(row[22] == 0),
-        settling: !(row[23] == 0),
+        alt: row[22] != 0,
+        settling: row[23] != 0,
     }
 }
 
@@ -93,8 +93,8 @@ fn burst_at(row: &[u32]) -> Burst
     ensures { λ r. ⌜ r ≡ burstAt (now (row .entry)) ⌝ }
 {
     Burst {
-        running: !(row[24] == 0),
-        software: !(row[25] == 0),
+        running: row[24] != 0,
+        software: row[25] != 0,
     }
 }
 
@@ -103,8 +103,8 @@ fn load_at(row: &[u32]) -> Load
     ensures { λ r. ⌜ r ≡ loadAt (now (row .entry)) ⌝ }
 {
     Load {
-        pending: !(row[26] == 0),
-        opened: !(row[27] == 0),
+        pending: row[26] != 0,
+        opened: row[27] != 0,
     }
 }
 
@@ -113,8 +113,8 @@ fn lost_at(row: &[u32]) -> Lost
     ensures { λ r. ⌜ r ≡ lostAt (now (row .entry)) ⌝ }
 {
     Lost {
-        full: !(row[28] == 0),
-        closed: !(row[29] == 0),
+        full: row[28] != 0,
+        closed: row[29] != 0,
     }
 }
 
@@ -136,7 +136,7 @@ fn core_at(row: &[u32]) -> Core
     ensures { λ r. ⌜ r ≡ coreAt (now (row .entry)) ⌝ }
 {
     Core {
-        powered: !(row[0] == 0),
+        powered: row[0] != 0,
         options: options_at(row),
         control: control_at(row),
         mode: mode_at(row),
@@ -160,7 +160,7 @@ fn record_at(row: &[u32]) -> Board
     Board {
         core: core_at(row),
         size: size_at(row),
-        request: !(row[32] == 0),
+        request: row[32] != 0,
         ring: Ring {
             first: row[33],
             count: row[34],

@@ -8,7 +8,7 @@ use borrow.Author.Tests.{lt-ltb, le-ltb}
 use lib.ListN.{length}
 use Rattle.rules.proofs.Choice.{cond-true, cond-false}
 use Rattle.listing.specs.declared.Listed.the-variants.{Text, Short}
-use Rattle.listing.specs.Text.{tooLong}
+use Rattle.text.specs.Text.{tooLong}
 use Rattle.listing.specs.Pieces.{Put}
 use Rattle.listing.specs.Listing.{longest, listing, left, text, memoryAfter, room}
 use Rattle.listing.specs.Promises.{Lists}

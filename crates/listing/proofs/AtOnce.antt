@@ -1,52 +1,45 @@
 -- Events done at once: what they change is what the step says, and the states of a run are kept by every event.
 use Prim.Native.Nat.{ℕ, _%_, _≤_, _<_}
 use mathlib.Core.Path.{_≡_, refl, sym, ap, subst, _∙_}
-use mathlib.Core.Bool.{Bool, true, false, not, cond, _&&_, true≢false, false≢true}
-use mathlib.Core.List.{List, [], _∷_}
-use native.Mathlib.Nat.{min-eq-right}
+use mathlib.Core.Logic.{_≢_}
+use mathlib.Core.Bool.{Bool, true, false, _&&_, false≢true}
+use mathlib.Core.List.{List}
+use native.Mathlib.Nat.{le-refl, min-eq-right}
 use native.Mathlib.Omega.{arith}
-use borrow.Author.Tests.{eqb-true, eqb-false, leb-true, ltb-true, not-true, not-false, lt-leb}
-use lib.Dec.{eqb, leb, ltb}
-use lib.ListN.{length, getD, set}
-use lib.Seq.{set-getD}
+use borrow.Author.Tests.{eqb-true, ne-eqb, leb-true, ltb-true, not-true, lt-leb}
+use lib.Dec.{eqb, leb}
 use Rattle.rules.specs.declared.Signal.the-variants.{Tick}
 use Rattle.rules.specs.declared.Event.{Event}
 use Rattle.rules.specs.declared.Event.the-variants.{PowerUp, Write, Read, Signal as signal}
-use Rattle.rules.specs.declared.Outputs.{Outputs}
 use Rattle.rules.specs.declared.Core.{Core}
 use Rattle.rules.specs.declared.Board.{Board}
 use Rattle.rules.specs.Record.{State, valueSpan, depthOf, depth, activeSize, stored}
-use Rattle.rules.specs.Parts.{withOutputs}
-use Rattle.rules.specs.Clocks.{Play, store, closed, targets, tickAccepted, clock, onTick}
+use Rattle.rules.specs.Clocks.{Play, store, fateNumber, closed, tickAccepted, clock, onTick}
 use Rattle.rules.specs.Clocks.{stored as storedFate}
 use Rattle.rules.specs.Flags.{isFull}
 use Rattle.rules.specs.Writes.{writeData, onWrite}
 use Rattle.rules.specs.Play.{onSignal, play}
+use Rattle.rules.specs.Place.{place}
 use Rattle.rules.specs.Size.{initialises, codeOf, sizeAfter}
 use Rattle.rules.specs.Interrupt.{conditions, condition, requestHeld, edge, requestAfter}
 use Rattle.rules.specs.Refusals.{refusal}
-use Rattle.rules.specs.Step.{Outcome, reading, played, boardBefore, withRequest, done, refused, step}
+use Rattle.rules.specs.Step.{Outcome, reading, played, boardBefore, withRequest, refused, step}
 use Rattle.rules.specs.Laws.Soundness.{Stands}
 use Rattle.rules.specs.Laws.Refusals.{written, heard, aTick}
-use Rattle.rules.proofs.Choice.{all-cons, cond-true, cond-false}
+use Rattle.rules.proofs.Choice.{all-cons, and-both, cond-true, cond-false}
 use Rattle.rules.proofs.Steps.{step-cases}
-use Rattle.rules.proofs.Lasting.{done-stands, up-stands, next-below}
+use Rattle.laws.proofs.Lasting.{done-stands, up-stands}
 use Rattle.rules.proofs.Refusals.{refusal-exactly, refusal-stands}
 use Rattle.moves.specs.declared.Played.{Played}
-use Rattle.moves.specs.declared.Taken.{Taken}
-use Rattle.moves.specs.declared.GroupTaken.{GroupTaken}
-use Rattle.moves.specs.Ready.{canTake, canTakeGroup}
+use Rattle.moves.specs.declared.Stored.{Stored}
+use Rattle.moves.specs.Ready.{Ready}
 use Rattle.moves.specs.Does.{Does, placeOf, listed}
-use Rattle.moves.specs.Deal.{Dealing, left, dealAll}
-use Rattle.moves.specs.Single.{takenOf, notTaken}
-use Rattle.moves.specs.Group.{groupOf, groupMemory, noGroup}
-use Rattle.moves.specs.Promises.{Takes as TakesOne, TakesGroup}
-use Rattle.moves.proofs.AsParts.{taken-does, all-move, group-does}
+use Rattle.moves.specs.Promises.{lent, Loaded}
+use Rattle.moves.proofs.Entries.{load-whole}
 use Rattle.board.specs.Promises.{Stepped}
+use Rattle.board.proofs.Standing.{stands-ready}
 use Rattle.board.proofs.Whole.{done-stepped}
-use Rattle.listing.specs.declared.shortcuts.Change.{Change}
-use Rattle.listing.specs.declared.shortcuts.GroupChange.{GroupChange}
-use Rattle.listing.specs.Shortcuts.{aheadEvent, takes, ticks, Kept, Done, DoneGroup}
+use Rattle.listing.specs.Shortcuts.{aheadEvent, takes, ticks, quick, boardWith, Kept}
 
 -- ---- The states of a run
 
@@ -57,23 +50,31 @@ kept-step s (Write o v) k = step-cases (λ (o : Outcome). Kept (o .state)) s (Wr
 kept-step s (Read o) k = step-cases (λ (o : Outcome). Kept (o .state)) s (Read o) (λ z _. done-stands s (Read o) tt (refusal-stands s (Read o) tt z)) (λ _. k)
 kept-step s (signal x) k = step-cases (λ (o : Outcome). Kept (o .state)) s (signal x) (λ z _. done-stands s (signal x) tt (refusal-stands s (signal x) tt z)) (λ _. k)
 
--- ---- An event that is left to `step`
-
-pub not-done : {b : Board} {m : List ℕ} {e : Event} {r : Change} → (r .done ≡ false) × (r .channel < 20) → Done b m e r m
-not-done h = record { stepped = λ z. absurd (false≢true (sym (h .0) ∙ z)); left = λ _. refl; channel = h .1 }
-
-pub group-not-done : {b : Board} {m : List ℕ} {e : Event} {r : GroupChange} → r .done ≡ false → DoneGroup b m e r m
-group-not-done h = record { stepped = λ z. absurd (false≢true (sym h ∙ z)); left = λ _. refl }
-
 -- ---- Which event it is
 
-pub load-ahead : (kind v : ℕ) → eqb kind 1 ≡ true → _≡_ {A = Event} (aheadEvent kind v) (Write 0x18 v)
+pub load-ahead : (kind v : ℕ) → kind ≡ 1 → _≡_ {A = Event} (aheadEvent kind v) (Write 0x18 v)
 unfolding aheadEvent
-load-ahead kind v h = cond-true _ _ _ h
+load-ahead kind v h = rw h
 
 pub tick-ahead : (kind v : ℕ) → kind ≡ 2 → _≡_ {A = Event} (aheadEvent kind v) (signal Tick)
 unfolding aheadEvent
 tick-ahead kind v h = rw h
+
+pub quick-load : (b : Board) (d kind : ℕ) → quick b d kind ≡ true → kind ≡ 1 → (b .core .powered ≡ true) × (takes b d ≡ true)
+unfolding quick
+quick-load b d kind q h = and-both (b .core .powered) _ (rw h at q)
+
+pub quick-tick : (b : Board) (d kind : ℕ) → quick b d kind ≡ true → kind ≢ 1
+    → (b .core .powered ≡ true) × (kind ≡ 2) × (ticks (b .core) ≡ true)
+unfolding quick
+quick-tick b d kind q h =
+    let t = and-both (b .core .powered) _ (sym (cond-false _ _ _ (ne-eqb kind 1 h)) ∙ q) in
+    let u = and-both (eqb kind 2) _ (t .1) in
+    (t .0, eqb-true kind 2 (u .0), u .1)
+
+-- it is one of the two
+pub quick-some : (b : Board) (d kind : ℕ) → quick b d kind ≡ true → kind ≢ 0
+quick-some b d kind q e = let t = quick-tick b d kind q (λ o. omega (arith, o, e)) in omega (arith, t .1, e)
 
 -- ---- Events that read nothing and leave size, request and selection alone
 
@@ -148,13 +149,6 @@ size-whole : (b : Board) → b .size .fitted ≤ b .size .code → activeSize (b
 unfolding activeSize depthOf
 size-whole b h = rw (min-eq-right h)
 
--- the level of channel 00 written as it was
-abbrev pub sameOutputs : Outputs → Outputs
-sameOutputs x = record { mask = x .mask; cursor = x .cursor; levels = set (x .levels) 0 (getD (x .levels) 0 0) }
-
-outputs-same : (c : Core) → withOutputs (sameOutputs (c .outputs)) c ≡ c
-outputs-same c = λ i. withOutputs (record { mask = c .outputs .mask; cursor = c .outputs .cursor; levels = set-getD (c .outputs .levels) 0 0 i }) c
-
 abbrev stays : Core → ℕ → Play
 stays c v = record { core = c; op = store (v % valueSpan); moved = 0; fate = storedFate }
 
@@ -168,21 +162,28 @@ unfolding play onWrite
 load-played s v h k = load-written (s .board .core) _ v h k
 
 module _ (s : State) (d v : ℕ) (st : Stands s) (e : d ≡ depth (s .board)) (t : takes (s .board) d ≡ true) where
-  pub stored-stepped : (r : Played) (m′ : List ℕ)
-      → Does d (writeData (s .board .core) (leb d (s .board .ring .count)) v) (s .board .ring) (s .memory) r m′
+  -- r is what `load` told of a core that takes it too
+  pub stored-stepped : (c : Core) (r : Stored) (m′ : List ℕ) → closed c ≡ closed (s .board .core)
+      → Loaded c d (s .board .ring) d v (s .memory) r m′
       → Stepped (s .board) (s .memory) (Write 0x18 v)
       (record {
-        answer = record { refusal = 0; register = 0; moved = 0; fate = 1 };
-        board = record { core = withOutputs (sameOutputs (s .board .core .outputs)) (s .board .core); size = s .board .size; request = s .board .request; ring = r .ring };
+        answer = record { refusal = 0; register = 0; moved = 0; fate = r .fate };
+        board = record { core = s .board .core; size = s .board .size; request = s .board .request; ring = r .ring };
       }) m′
-  stored-stepped r m′ x =
+  stored-stepped c r m′ same l =
       let w = takes-says (s .board) d t in
-      let p : Played = record { core = withOutputs (sameOutputs (s .board .core .outputs)) (s .board .core); ring = r .ring; moved = 0; fate = 1 } in
       let full = lt-leb _ _ (w .below) in
-      let y : Does d (stays (s .board .core) v) (s .board .ring) (s .memory) r m′ =
-      subst (λ (q : Play). Does d q (s .board .ring) (s .memory) r m′) (load-written (s .board .core) _ v (w .unclosed) full) x in
+      let p : Played = record { core = s .board .core; ring = r .ring; moved = 0; fate = r .fate } in
+      let a : Ready d (s .board .ring) (s .memory) = subst (λ (k : ℕ). Ready k (s .board .ring) (s .memory)) (sym e) (stands-ready s st) in
+      let y = load-whole c d (s .board .ring) d v (s .memory) a (le-refl d) ∙ load-written c _ v (same ∙ w .unclosed) full in
       let z : Does d (stays (s .board .core) v) (s .board .ring) (s .memory) p m′ =
-      record { core = outputs-same (s .board .core); moved = refl; fate = refl; ring = y .ring; memory = y .memory } in
+      record {
+        core = refl;
+        moved = refl;
+        fate = l .fate ∙ ap (λ (q : Play). fateNumber (q .fate)) y;
+        ring = l .ring ∙ ap (λ (q : Play). (place d (q .op) (placeOf (s .board .ring) (s .memory))) .ring) y;
+        memory = l .memory ∙ ap (λ (q : Play). (place d (q .op) (placeOf (s .board .ring) (s .memory))) .memory) y;
+      } in
       let size : isFull (s .board .size) (s .board .ring .count) ≡ false = ap (λ (n : ℕ). leb n (s .board .ring .count)) (size-whole (s .board) (w .whole) ∙ sym e) ∙ full in
       let n = (refusal-exactly s (Write 0x18 v) 0) .1
       (written st (record { aligned = refl; low = omega arith }) (λ q. absurd (omega arith)) (λ q. absurd (omega arith)) (λ q. false≢true (sym (w .free) ∙ q))) in
@@ -218,81 +219,11 @@ module _ (s : State) (d : ℕ) (st : Stands s) (e : d ≡ depth (s .board)) (t :
       quick-stepped s (signal Tick) p m′ ((refusal-exactly s (signal Tick) 0) .1 (heard aTick st)) (tick-quiet (s .board)) (w .0) (same ∙ w .0)
       (subst (λ (q : Play). Does (depth (s .board)) q (s .board .ring) (s .memory) p m′) (sym (tick-played s (w .1))) y)
 
-  -- what `take` told, as a change: done if a value moved
-  abbrev changeOf : Taken → Change
-  changeOf r =
-      record {
-        done = r .moved;
-        moved = 1;
-        fate = 0;
-        channel = r .channel;
-        level = r .level;
-        cursor = r .cursor;
-        burst = r .burst;
-        load = r .load;
-        ring = r .ring;
-      }
+-- the test of the code does not look at the levels
+pub takes-with : (b : Board) (d : ℕ) (ls : List ℕ) → takes (boardWith b ls) d ≡ takes b d
+unfolding takes
+takes-with b d ls = refl
 
-  pub ticked-done : (r : Taken) (m′ : List ℕ) → TakesOne (s .board .core) (s .board .ring) d (s .memory) r m′
-      → Done (s .board) (s .memory) (signal Tick) (changeOf r) m′
-  unfolding takenOf notTaken
-  ticked-done r m′ x = go (canTake (s .board .core) (s .board .ring) d (length (s .memory))) refl
-    where
-      go : (t : Bool) → canTake (s .board .core) (s .board .ring) d (length (s .memory)) ≡ t → Done (s .board) (s .memory) (signal Tick) (changeOf r) m′
-      go true h =
-          let p = x .parts ∙ cond-true _ _ _ h in
-          let q = x .memory ∙ cond-true _ _ _ h in
-          let k : Done (s .board) (s .memory) (signal Tick) (changeOf (takenOf (s .board .core) (s .board .ring) d (s .memory)))
-          ((left (closed (s .board .core)) d (placeOf (s .board .ring) (s .memory))) .memory) =
-          record {
-            stepped = λ _. ticked-stepped _ _ refl (taken-does (s .board .core) (s .board .ring) d (s .memory) h);
-            left = λ z. absurd (true≢false z);
-            channel = next-below (s .board .core) (st .sound .cursor);
-          } in
-          subst (λ (y : Taken). Done (s .board) (s .memory) (signal Tick) (changeOf y) m′) (sym p)
-          (subst (λ (y : List ℕ). Done (s .board) (s .memory) (signal Tick) (changeOf (takenOf (s .board .core) (s .board .ring) d (s .memory))) y) (sym q) k)
-      go false h =
-          let p = x .parts ∙ cond-false _ _ _ h in
-          record {
-            stepped = λ z. absurd (false≢true (sym (ap (λ (y : Taken). y .moved) p) ∙ z));
-            left = λ _. x .memory ∙ cond-false _ _ _ h;
-            channel = rw p (omega arith);
-          }
-
-  -- ---- A group
-
-  abbrev groupChangeOf : GroupTaken → GroupChange
-  groupChangeOf r = record { done = not (eqb (r .moved) 0); moved = r .moved; levels = r .levels; burst = r .burst; load = r .load; ring = r .ring }
-
-  -- a group of no channels moves nothing
-  none-dealt : (ks : List ℕ) (x : Dealing) → length ks ≡ 0 → dealAll (s .board .core .control .binary) (closed (s .board .core)) d ks x ≡ x
-  unfolding dealAll
-  none-dealt [] x h = refl
-  none-dealt (k ∷ ks) x h = absurd (omega arith)
-
-  pub group-done : (r : GroupTaken) (m′ : List ℕ) → TakesGroup (s .board .core) (s .board .ring) d (s .memory) r m′
-      → DoneGroup (s .board) (s .memory) (signal Tick) (groupChangeOf r) m′
-  unfolding groupOf groupMemory noGroup
-  group-done r m′ x = go (canTakeGroup (s .board .core) (s .board .ring) d (length (s .memory))) refl
-    where
-      go : (t : Bool) → canTakeGroup (s .board .core) (s .board .ring) d (length (s .memory)) ≡ t
-          → DoneGroup (s .board) (s .memory) (signal Tick) (groupChangeOf r) m′
-      go true h =
-          let p = x .parts ∙ cond-true _ _ _ h in
-          let q = x .memory ∙ cond-true _ _ _ h in
-          let g = groupOf (s .board .core) (s .board .ring) d (s .memory) in
-          let n = groupMemory (s .board .core) (s .board .ring) d (s .memory) in
-          let k : DoneGroup (s .board) (s .memory) (signal Tick) (groupChangeOf g) n =
-          record {
-            stepped = λ z. ticked-stepped _ _ refl (group-does (s .board .core) (s .board .ring) d (s .memory) h
-                (λ o. eqb-false _ 0 (not-true _ z) (sym (all-move (s .board .core) (s .board .ring) d (s .memory) h) ∙ o)));
-            left = λ z. ap (λ (y : Dealing). y .memory) (none-dealt (targets (s .board .core)) _ (eqb-true _ 0 (not-false _ z)));
-          } in
-          subst (λ (y : GroupTaken). DoneGroup (s .board) (s .memory) (signal Tick) (groupChangeOf y) m′) (sym p)
-          (subst (λ (y : List ℕ). DoneGroup (s .board) (s .memory) (signal Tick) (groupChangeOf g) y) (sym q) k)
-      go false h =
-          let p = x .parts ∙ cond-false _ _ _ h in
-          record {
-            stepped = λ z. absurd (false≢true (sym (ap (λ (y : GroupTaken). not (eqb (y .moved) 0)) p) ∙ z));
-            left = λ _. x .memory ∙ cond-false _ _ _ h;
-          }
+pub ticks-with : (c : Core) (ls : List ℕ) → ticks (lent c ls) ≡ ticks c
+unfolding ticks
+ticks-with c ls = refl

@@ -13,7 +13,7 @@ use Rattle.session.specs.declared.End.the-variants.{File, Refused}
 use Rattle.session.specs.declared.Item.the-variants.{Over}
 use Rattle.session.specs.File.{Session}
 use Rattle.session.proofs.Sessions.{Within}
-use Rattle.listing.specs.Text.{line}
+use Rattle.text.specs.Text.{line}
 use Rattle.listing.specs.Listing.{lines, tail, InReach}
 
 abbrev pub levelsOf : State → List ℕ

@@ -1,8 +1,6 @@
--- The laws of specs/Laws, and what the functions' proofs cite; each file opens with what it shows.
+-- What the functions' proofs cite; each file opens with what it shows.
 pub mod Puts
-pub mod Numbers
 pub mod LineParts
-pub mod Lengths
 pub mod Body
 pub mod Standing
 pub mod Writing

@@ -2,7 +2,7 @@
 use Prim.Native.Nat.{ℕ}
 use mathlib.Core.Path.{_≡_, sym, ap, _∙_}
 use mathlib.Core.List.{List, [], _∷_, _++_, append-assoc}
-use Rattle.listing.specs.Text.{space, newline, decimal, decimalIn, hex}
+use Rattle.text.specs.Text.{space, newline, decimal, decimalIn, hex}
 use Rattle.listing.specs.Pieces.{rest}
 
 -- what stands before the end of a line, and the end, are the line's fields in order

@@ -17,12 +17,12 @@ use Rattle.session.proofs.Given.{item-grows}
 use Rattle.session.proofs.Rests.{Rest, rest-start, rest-got, rest-over}
 use Rattle.board.specs.declared.Reply.{Reply}
 use Rattle.board.specs.Promises.{Stepped}
-use Rattle.listing.specs.Text.{line}
+use Rattle.text.specs.Text.{line}
 use Rattle.listing.specs.Pieces.{Put}
 use Rattle.listing.specs.Listing.{tail, left}
 use Rattle.listing.specs.Shortcuts.{stateOf, Kept}
 use Rattle.listing.proofs.Puts.{then, put-length}
-use Rattle.listing.proofs.Lengths.{line-length}
+use Rattle.text.proofs.Lengths.{line-length}
 use Rattle.listing.proofs.Body.{levelsOf, body, body-event, body-end}
 use Rattle.listing.proofs.AtOnce.{kept-step}
 

@@ -1,7 +1,5 @@
-pub mod Text
 pub mod Pieces
 pub mod Listing
 pub mod Shortcuts
 pub mod Promises
 pub mod Unique
-pub mod Laws

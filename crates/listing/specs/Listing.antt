@@ -14,7 +14,7 @@ use Rattle.rules.specs.Session.{outcomes, after}
 use Rattle.session.specs.declared.End.{End}
 use Rattle.session.specs.declared.End.the-variants.{File, Refused}
 use Rattle.session.specs.File.{faultNumber, session}
-use Rattle.listing.specs.Text.{heading, tooLong, line, levelsLine, fileLine}
+use Rattle.text.specs.Text.{heading, tooLong, line, levelsLine, fileLine}
 
 -- ---- The parts
 

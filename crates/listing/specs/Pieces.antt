@@ -4,7 +4,7 @@ use mathlib.Core.Path.{_≡_}
 use mathlib.Core.List.{List, [], _∷_, _++_}
 use lib.ListN.{length}
 use lib.Seq.{sets}
-use Rattle.listing.specs.Text.{space, newline, decimal}
+use Rattle.text.specs.Text.{space, newline, decimal}
 
 -- `next` is the place after it; every other byte is as it was
 pub record Put (out : List ℕ) (at : ℕ) (piece : List ℕ) (out′ : List ℕ) (next : ℕ) : Type 0 where

@@ -1,16 +1,16 @@
 -- Events that the loop over a session does at once, and what of the board they change. For the code.
---   aheadEvent k v  the event ahead, by its kind and its value
---   takes b d       the board b, of d values, stores the next load, and that changes its ring alone
---   ticks c         a tick is accepted
---   boardOf b r     the board b with what is new in r
---   Kept s          the states of a run: not powered, or sound over enough memory
---   Done b m e r m′   if r says that it was done, r and m′ are what the step makes of the event e; else nothing was changed
-use Prim.Native.Nat.{ℕ, _<_}
+--   aheadEvent k v    the event ahead, by its kind and its value
+--   takes b d         the board b, of d values, stores the next load, and that changes its ring alone
+--   ticks c           a tick is accepted
+--   quick b d k       the event ahead, of the kind k, can be done at once
+--   boardWith b ls    the board b with the levels ls
+--   boardOf b r ls    the board b with what is new in r, and the levels ls
+--   Kept s            the states of a run: not powered, or sound over enough memory
+use Prim.Native.Nat.{ℕ}
 use mathlib.Core.Path.{_≡_}
-use mathlib.Core.Bool.{Bool, true, false, not, cond}
+use mathlib.Core.Bool.{Bool, true, not, cond, _&&_}
 use mathlib.Core.List.{List, [], _∷_}
 use lib.Dec.{eqb, leb, ltb}
-use lib.ListN.{set}
 use Rattle.rules.specs.declared.Signal.the-variants.{Tick}
 use Rattle.rules.specs.declared.Event.{Event}
 use Rattle.rules.specs.declared.Event.the-variants.{Write, Signal as signal}
@@ -21,10 +21,9 @@ use Rattle.rules.specs.Record.{State}
 use Rattle.rules.specs.Parts.{withBurst, withLoad, withOutputs}
 use Rattle.rules.specs.Clocks.{closed, tickAccepted}
 use Rattle.rules.specs.Laws.Soundness.{Stands}
+use Rattle.moves.specs.Promises.{lent}
 use Rattle.board.specs.declared.Reply.{Reply}
-use Rattle.board.specs.Promises.{Stepped}
 use Rattle.listing.specs.declared.shortcuts.Change.{Change}
-use Rattle.listing.specs.declared.shortcuts.GroupChange.{GroupChange}
 
 -- ---- Which events
 
@@ -42,47 +41,28 @@ takes b d =
 unfoldable pub ticks : Core → Bool
 ticks c = all (eqb (c .control .selection) 0 ∷ tickAccepted c ∷ [])
 
+unfoldable pub quick : Board → ℕ → ℕ → Bool
+quick b d kind = cond (eqb kind 1) (b .core .powered && takes b d) (b .core .powered && (eqb kind 2 && ticks (b .core)))
+
 -- ---- What is new
 
-abbrev pub coreOf : Core → Change → Core
-coreOf c r =
+abbrev pub boardWith : Board → List ℕ → Board
+boardWith b ls = record { core = lent (b .core) ls; size = b .size; request = b .request; ring = b .ring }
+
+abbrev pub coreOf : Core → Change → List ℕ → Core
+coreOf c r ls =
     withBurst (r .burst)
     (withLoad (r .load)
-    (withOutputs (record { mask = c .outputs .mask; cursor = r .cursor; levels = set (c .outputs .levels) (r .channel) (r .level) }) c))
+    (withOutputs (record { mask = c .outputs .mask; cursor = r .cursor; levels = ls }) c))
 
-abbrev pub boardOf : Board → Change → Board
-boardOf b r = record { core = coreOf (b .core) r; size = b .size; request = b .request; ring = r .ring }
+abbrev pub boardOf : Board → Change → List ℕ → Board
+boardOf b r ls = record { core = coreOf (b .core) r ls; size = b .size; request = b .request; ring = r .ring }
 
-abbrev pub replyOf : Board → Change → Reply
-replyOf b r = record { answer = record { refusal = 0; register = 0; moved = r .moved; fate = r .fate }; board = boardOf b r }
+abbrev pub replyOf : Board → Change → List ℕ → Reply
+replyOf b r ls = record { answer = record { refusal = 0; register = 0; moved = r .moved; fate = r .fate }; board = boardOf b r ls }
 
 abbrev pub stateOf : Board → List ℕ → State
 stateOf b m = record { board = b; memory = m }
 
 abbrev pub Kept : State → Type 0
 Kept s = s .board .core .powered ≡ true → Stands s
-
-pub record Done (b : Board) (m : List ℕ) (e : Event) (r : Change) (m′ : List ℕ) : Type 0 where
-  pub stepped : r .done ≡ true → Stepped b m e (replyOf b r) m′
-  pub left : r .done ≡ false → m′ ≡ m
-  pub channel : r .channel < 20
-
--- ---- The same of a group
-
-abbrev pub groupBoard : Board → GroupChange → Board
-groupBoard b r =
-    record {
-      core = withBurst (r .burst)
-          (withLoad (r .load)
-          (withOutputs (record { mask = b .core .outputs .mask; cursor = b .core .outputs .cursor; levels = r .levels }) (b .core)));
-      size = b .size;
-      request = b .request;
-      ring = r .ring;
-    }
-
-abbrev pub groupReply : Board → GroupChange → Reply
-groupReply b r = record { answer = record { refusal = 0; register = 0; moved = r .moved; fate = 0 }; board = groupBoard b r }
-
-pub record DoneGroup (b : Board) (m : List ℕ) (e : Event) (r : GroupChange) (m′ : List ℕ) : Type 0 where
-  pub stepped : r .done ≡ true → Stepped b m e (groupReply b r) m′
-  pub left : r .done ≡ false → m′ ≡ m

@@ -2,7 +2,7 @@
 ghost use Prim.Native.Nat.{_+_, _≤_};
 ghost use mathlib.Core.List.{_∷_};
 ghost use lib.ListN.{length};
-ghost use Rattle.listing.specs.Text.{space, decimal, heading, tooLong, line, levelsLine, fileLine};
+ghost use Rattle.text.specs.Text.{space, decimal, heading, tooLong, line, levelsLine, fileLine};
 ghost use Rattle.listing.specs.Pieces.{rest};
 ghost use Rattle.listing.specs.Pieces.{Put};
 use crate::pieces::put_byte;

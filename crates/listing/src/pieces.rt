@@ -3,7 +3,7 @@ ghost use Prim.Native.Nat.{_+_, _/_, _%_, _<_, _≤_};
 ghost use mathlib.Core.Path.{_≡_};
 ghost use mathlib.Core.List.{[], _∷_};
 ghost use lib.ListN.{length};
-ghost use Rattle.listing.specs.Text.{digit, capital, hex, decimalIn, decimal};
+ghost use Rattle.text.specs.Text.{digit, capital, hex, decimalIn, decimal};
 ghost use Rattle.listing.specs.Pieces.{Put};
 
 pub(crate) fn put_byte(out: &mut [u8], at: usize, b: u8) -> usize

@@ -6,6 +6,7 @@ use mathlib.Core.Logic.{_≢_}
 use mathlib.Core.Bool.{Bool, true, false, cond, _||_, or-false, or-assoc}
 use mathlib.Core.List.{List, [], _∷_, _++_}
 use native.Mathlib.Omega.{arith}
+use borrow.Author.Tests.{ne-eqb}
 use lib.ListN.{length, take, drop, length-drop}
 use lib.Seq.{take-append-le}
 use Rattle.rules.specs.Bits.{bit, some}
@@ -13,28 +14,29 @@ use Rattle.rules.specs.Record.{values}
 use Rattle.rules.specs.Parts.{withBurst, withLoad, withOutputs}
 use Rattle.rules.specs.Clocks.{leave, recirculate, closed, targets, moving, cursorAfter, laid, carriesEof, burstEnds, burstAfter, loadAfter, outgoing, moves, clock}
 use Rattle.rules.specs.Place.{Place, times, place}
-use Rattle.rules.proofs.Places.{Good, length-values}
+use Rattle.rules.proofs.Steps.{length-values}
+use Rattle.laws.proofs.Places.{Good}
+use Rattle.rules.proofs.Choice.{cond-false}
 use Rattle.rules.specs.declared.Core.{Core}
 use Rattle.rules.specs.declared.Ring.{Ring}
-use Rattle.moves.specs.declared.deal.Deal.{Deal}
 use Rattle.moves.specs.Ready.{Ready}
 use Rattle.moves.specs.Does.{Does, placeOf, listed}
-use Rattle.moves.specs.Deal.{Dealing, front, left, placeNow, dealOne, dealAll}
+use Rattle.moves.specs.Deal.{Dealing, dealing, front, left, placeNow, dealOne, dealAll}
 use Rattle.moves.specs.declared.Played.{Played}
 use Rattle.moves.proofs.Rings.{ready-good, left-placed, left-count}
-use Rattle.moves.proofs.Moving.{moving-some}
+use Rattle.channels.proofs.Moving.{moving-some}
 
 -- ---- One value
 
 abbrev held : ℕ → Dealing → List ℕ
-held d s = listed d (s .deal .ring) (s .memory)
+held d s = listed d (s .ring) (s .memory)
 
 -- the values in order: the front one, and those after it
-held-split : (d : ℕ) (s : Dealing) → zero < s .deal .ring .count → held d s ≡ front s ∷ drop 1 (held d s)
+held-split : (d : ℕ) (s : Dealing) → zero < s .ring .count → held d s ≡ front s ∷ drop 1 (held d s)
 unfolding values
-held-split d s h = go (s .deal .ring .count) refl
+held-split d s h = go (s .ring .count) refl
   where
-    go : (n : ℕ) → s .deal .ring .count ≡ n → held d s ≡ front s ∷ drop 1 (held d s)
+    go : (n : ℕ) → s .ring .count ≡ n → held d s ≡ front s ∷ drop 1 (held d s)
     go zero e = absurd (omega arith)
     go (suc n) e = rw e
 
@@ -46,43 +48,44 @@ take-next false k l h = refl
 -- ---- A value to each channel of a list
 
 pub record Dealt (binary again : Bool) (d : ℕ) (ks : List ℕ) (s : Dealing) : Type 0 where
-  pub levels : (dealAll binary again d ks s) .deal .levels ≡ laid binary (s .deal .levels) ks (take (length ks) (held d s))
+  pub levels : (dealAll binary again d ks s) .levels ≡ laid binary (s .levels) ks (take (length ks) (held d s))
   pub places : placeNow (dealAll binary again d ks s) ≡ times (left again d) (length ks) (placeNow s)
-  pub ended : (dealAll binary again d ks s) .deal .ended ≡ s .deal .ended || carriesEof (take (length ks) (held d s))
+  pub ended : (dealAll binary again d ks s) .ended ≡ s .ended || carriesEof (take (length ks) (held d s))
 
-pub dealt : (binary again : Bool) (d : ℕ) (ks : List ℕ) (s : Dealing) → Good d (placeNow s) → length ks ≤ s .deal .ring .count → Dealt binary again d ks s
+pub dealt : (binary again : Bool) (d : ℕ) (ks : List ℕ) (s : Dealing) → Good d (placeNow s) → length ks ≤ s .ring .count → Dealt binary again d ks s
 unfolding dealAll dealOne laid times carriesEof some
-dealt binary again d [] s g h = record { levels = refl; places = refl; ended = sym (or-false (s .deal .ended)) }
+dealt binary again d [] s g h = record { levels = refl; places = refl; ended = sym (or-false (s .ended)) }
 dealt binary again d (k ∷ ks) s g h =
     let l = held d s in
     let m = left-placed again d (placeNow s) g (omega arith) in
     let r = dealt binary again d ks (dealOne binary again d k s) (m .good) (omega (arith, left-count again d (placeNow s))) in
-    let long = length-values d (s .deal .ring .first) (s .deal .ring .count) (s .memory) in
+    let long = length-values d (s .ring .first) (s .ring .count) (s .memory) in
     let n = ap (take (length ks)) (m .lists) ∙ take-next again (length ks) l (omega (arith, length-drop 1 l, long)) in
     let split = sym (held-split d s (omega arith)) in
+    let on : dealAll binary again d (k ∷ ks) s ≡ dealAll binary again d ks (dealOne binary again d k s) = cond-false _ _ _ (ne-eqb (s .ring .count) 0 (λ e. omega (arith, e, h))) in
     record {
-      levels = r .levels ∙ ap (laid binary _ ks) n ∙ ap (λ (x : List ℕ). laid binary (s .deal .levels) (k ∷ ks) (take (suc (length ks)) x)) split;
-      places = r .places;
-      ended = r .ended ∙ ap (λ (x : List ℕ). (s .deal .ended || bit 16 (front s)) || carriesEof x) n
-          ∙ or-assoc (s .deal .ended) (bit 16 (front s)) (carriesEof (take (length ks) (drop 1 l)))
-          ∙ ap (λ (x : List ℕ). s .deal .ended || carriesEof (take (suc (length ks)) x)) split;
+      levels = ap (λ (x : Dealing). x .levels) on ∙ r .levels ∙ ap (laid binary _ ks) n ∙ ap (λ (x : List ℕ). laid binary (s .levels) (k ∷ ks) (take (suc (length ks)) x)) split;
+      places = ap placeNow on ∙ r .places;
+      ended = ap (λ (x : Dealing). x .ended) on ∙ r .ended ∙ ap (λ (x : List ℕ). (s .ended || bit 16 (front s)) || carriesEof x) n
+          ∙ or-assoc (s .ended) (bit 16 (front s)) (carriesEof (take (length ks) (drop 1 l)))
+          ∙ ap (λ (x : List ℕ). s .ended || carriesEof (take (suc (length ks)) x)) split;
     }
 
 -- ---- An accepted clock
 
 -- what is dealt at a clock, from the levels, the ring and the memory before it
 abbrev pub start : Core → Ring → List ℕ → Dealing
-start c ring m = record { deal = record { levels = c .outputs .levels; ring = ring; ended = false }; memory = m }
+start c ring m = dealing (c .outputs .levels) ring false m
 
 abbrev pub atClock : Core → ℕ → Ring → List ℕ → Dealing
 atClock c d ring m = dealAll (c .control .binary) (closed c) d (targets c) (start c ring m)
 
 -- the core that a clock leaves
-abbrev pub coreAfter : Core → ℕ → Deal → Core
-coreAfter c cursor x =
-    withBurst (burstAfter (x .ended) (c .burst))
-    (withLoad (loadAfter (x .ended) (c .load))
-    (withOutputs (record { mask = c .outputs .mask; cursor = cursor; levels = x .levels }) c))
+abbrev pub coreAfter : Core → ℕ → List ℕ → Bool → Core
+coreAfter c cursor levels ended =
+    withBurst (burstAfter ended (c .burst))
+    (withLoad (loadAfter ended (c .load))
+    (withOutputs (record { mask = c .outputs .mask; cursor = cursor; levels = levels }) c))
 
 left-outgoing : (c : Core) (d k : ℕ) (p : Place) → times (left (closed c) d) k p ≡ place d (outgoing c k) p
 unfolding outgoing place
@@ -93,10 +96,10 @@ left-outgoing c d k p = go (closed c)
     go false = refl
 
 -- the answer of the code where k values move
-abbrev answer : Core → ℕ → Ring → List ℕ → ℕ → Played
+abbrev pub answer : Core → ℕ → Ring → List ℕ → ℕ → Played
 answer c d ring m k =
-    let x : Deal = (atClock c d ring m) .deal in
-    record { core = coreAfter c (cursorAfter c) x; ring = x .ring; moved = k; fate = 0 }
+    let x = atClock c d ring m in
+    record { core = coreAfter c (cursorAfter c) (x .levels) (x .ended); ring = x .ring; moved = k; fate = 0 }
 
 -- dealing to the targets does what the rules say of a clock that moves values
 pub dealt-does : (c : Core) (d : ℕ) (ring : Ring) (m : List ℕ) → Ready d ring m → moving c (listed d ring m) ≢ 0
@@ -115,7 +118,7 @@ dealt-does c d ring m ready h =
         let ended = t .ended ∙ ap (λ (n : ℕ). carriesEof (take n (listed d ring m))) (sym e) in
         let places = t .places ∙ ap (λ (n : ℕ). times (left (closed c) d) n (placeOf ring m)) (sym e) ∙ left-outgoing c d (suc k) (placeOf ring m) in
         record {
-          core = λ i. coreAfter c (cursorAfter c) (record { levels = levels i; ring = ring; ended = ended i });
+          core = λ i. coreAfter c (cursorAfter c) (levels i) (ended i);
           moved = refl;
           fate = refl;
           ring = ap (λ (p : Place). p .ring) places;

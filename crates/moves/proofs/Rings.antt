@@ -8,7 +8,7 @@ use native.Mathlib.Omega.{arith}
 use lib.ListN.{take, drop}
 use Rattle.rules.specs.Clocks.{leave, recirculate}
 use Rattle.rules.specs.Place.{Place, times, place}
-use Rattle.rules.proofs.Places.{Good, Placed, listed, onList, placed-op}
+use Rattle.laws.proofs.Places.{Good, Placed, listed, onList, placed-op}
 use Rattle.rules.specs.declared.Ring.{Ring}
 use Rattle.moves.specs.Ready.{Ready}
 use Rattle.moves.specs.Does.{placeOf}

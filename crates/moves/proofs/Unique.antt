@@ -1,31 +1,21 @@
 -- Each promise says what every part of the outcome equals: two that do are equal.
-use Prim.Native.Nat.{ℕ}
-use mathlib.Core.Path.{_≡_}
-use mathlib.Core.List.{List}
-use Rattle.rules.specs.declared.Ring.{Ring}
-use Rattle.rules.specs.Clocks.{Play}
+use mathlib.Core.Path.{ap, _∙_}
+use mathlib.Core.Bool.{Bool}
+use Rattle.rules.specs.Clocks.{burstAfter, loadAfter}
 use Rattle.rules.proofs.Equal.{determined}
-use Rattle.moves.specs.declared.Played.{Played}
-use Rattle.moves.specs.Does.{Does}
-use Rattle.moves.specs.Unique.{Clocked-unique, Loaded-unique, Takes-unique, TakesGroup-unique}
+use Rattle.moves.specs.Deal.{Dealing}
+use Rattle.moves.specs.Unique.{Deals-unique, Loaded-unique}
 
-does-unique : (d : ℕ) (p : Play) (at : Ring) (m : List ℕ) (r r′ : Played) (n n′ : List ℕ)
-    → Does d p at m r n → Does d p at m r′ n′ → (r ≡ r′) × (n ≡ n′)
-does-unique d p at m r r′ n n′ h k =
-    let cores = determined (h .core) (k .core) in
-    let rings = determined (h .ring) (k .ring) in
-    let moves = determined (h .moved) (k .moved) in
-    let fates = determined (h .fate) (k .fate) in
-    (λ i. record { core = cores i; ring = rings i; moved = moves i; fate = fates i }, determined (h .memory) (k .memory))
-
-pub clocked-unique : Clocked-unique
-clocked-unique c ring d m r r′ n n′ p q = does-unique d _ ring m r r′ n n′ (p .does) (q .does)
+pub deals-unique : Deals-unique
+deals-unique mask x binary again d ls m r r′ ls₁ ls₂ n n′ p q =
+    let same = determined (p .dealt) (q .dealt) in
+    let ended = ap (λ (y : Dealing). y .ended) same in
+    let bursts = determined (p .burst ∙ ap (λ (t : Bool). burstAfter t (x .burst)) ended) (q .burst) in
+    let loads = determined (p .load ∙ ap (λ (t : Bool). loadAfter t (x .load)) ended) (q .load) in
+    (λ i. record { ring = (same i) .ring; burst = bursts i; load = loads i }, ap (λ (y : Dealing). y .levels) same, ap (λ (y : Dealing). y .memory) same)
 
 pub loaded-unique : Loaded-unique
-loaded-unique c size ring d v m r r′ n n′ p q = does-unique d _ ring m r r′ n n′ (p .does) (q .does)
-
-pub takes-unique : Takes-unique
-takes-unique c ring d m r r′ n n′ p q = (determined (p .parts) (q .parts), determined (p .memory) (q .memory))
-
-pub takes-group-unique : TakesGroup-unique
-takes-group-unique c ring d m r r′ n n′ p q = (determined (p .parts) (q .parts), determined (p .memory) (q .memory))
+loaded-unique c size ring d v m r r′ n n′ p q =
+    let fates = determined (p .fate) (q .fate) in
+    let rings = determined (p .ring) (q .ring) in
+    (λ i. record { fate = fates i; ring = rings i }, determined (p .memory) (q .memory))

@@ -1,29 +1,24 @@
 // The values that move: those that an accepted clock takes to the channels, and one that a load stores.
 // Every call takes every input. What each promises is in specs/Promises.antt.
-ghost use Rattle.moves.specs.Promises.{Clocked, Loaded, Takes, TakesGroup};
-use crate::clocks::run_clock;
-use crate::grouped::group_taken;
-use crate::grouped::no_group;
-use crate::loads::load_value;
-use crate::ready::can_clock;
-use crate::ready::can_load;
-use crate::ready::can_take;
-use crate::ready::can_take_group;
-use crate::single::not_taken;
-use crate::single::taken;
+ghost use Rattle.moves.specs.Promises.{Deals, Loaded};
+use crate::fates::fate_of;
+use crate::frames::burst_after;
+use crate::frames::coded;
+use crate::frames::load_after;
+use crate::ring::pass;
+use crate::ring::wrapped;
+use crate::sizes::fits;
+use crate::sizes::mask_if;
+use channels::lowest_from;
 use rules::Burst;
 use rules::Core;
 use rules::Load;
 use rules::Ring;
 
-mod channels;
-mod clocks;
-mod deal;
-mod grouped;
-mod loads;
-mod ready;
+mod fates;
+mod frames;
 mod ring;
-mod single;
+mod sizes;
 mod states;
 
 // What an event that is not refused did, with the stored values at their places.
@@ -34,76 +29,74 @@ pub struct Played {
     pub fate: u32,
 }
 
-// What a clock of sequential mode that moves a value changes: the level of a channel, the cursor, and what an EOF ends. Where none is
-// moved the channel and the level are 0, and the rest is as it was.
-pub struct Taken {
-    pub moved: bool,
-    pub channel: usize,
-    pub level: u16,
-    pub cursor: u32,
+// What values that leave change beside the levels and the memory.
+pub struct Frame {
+    pub ring: Ring,
     pub burst: Burst,
     pub load: Load,
+}
+
+// What a load came to: its fate, and the ring after it.
+pub struct Stored {
+    pub fate: u32,
     pub ring: Ring,
 }
 
-// What a clock of simultaneous mode that moves a group changes: the levels, and what an EOF ends. Where none is moved all is as it was.
-pub struct GroupTaken {
-    pub moved: u32,
-    pub levels: [u16; 20],
-    pub burst: Burst,
-    pub load: Load,
-    pub ring: Ring,
-}
-
-// An accepted clock on a core and its ring, in a memory of which the first d values are the board's. Where the ring does not lie
-// in them, or the core's mask or cursor is out of range, nothing moves.
-pub fn clock(c: Core, ring: Ring, d: u32, memory: &mut [u32]) -> Played
-    ensures { λ r. ⌜ Clocked c ring d (now (memory .entry)) r (now (memory .exit)) ⌝ }
+// A value from the front of the ring to each channel of the mask, ascending, as far as there are any. The levels are lent and change in
+// place: handed on with each value they would be copied for each. Where the ring does not lie in the first d values of the memory,
+// nothing moves.
+pub fn deal(
+    mask: u32,
+    x: Frame,
+    binary: bool,
+    again: bool,
+    d: u32,
+    levels: &mut [u16; 20],
+    memory: &mut [u32],
+) -> Frame
+    ensures { λ r. ⌜ Deals mask x binary again d (now (levels .entry)) (now (memory .entry)) r (now (levels .exit)) (now (memory .exit)) ⌝ }
 {
-    if can_clock(c, ring, d, memory.len()) {
-        return run_clock(c, ring, d, memory);
+    let mut ring = x.ring;
+    let mut ended = false;
+    let ks = mask_if(fits(ring, d, memory.len()), mask);
+    let mut k = lowest_from(ks, 0);
+    while (k < 20) & (0 < ring.count) {
+        let passed = pass(ring, again, d, memory);
+        let at = k as usize;
+        levels[at] = coded(binary, passed.value);
+        ended = ended | (passed.value / 65536 % 2 == 1);
+        let rest = passed.ring;
+        ring = rest;
+        k = lowest_from(ks, k + 1);
     }
-    Played {
-        core: c,
+    let burst = x.burst;
+    let load = x.load;
+    Frame {
         ring: ring,
-        moved: 0,
-        fate: 0,
+        burst: burst_after(ended, burst),
+        load: load_after(ended, load),
     }
 }
 
 // A write of v to 18h, where the buffer takes values up to the active size. Where the ring does not lie in the first d values of the
 // memory, or the active size is above d, nothing is stored.
-pub fn load(c: Core, size: u32, ring: Ring, d: u32, v: u32, memory: &mut [u32]) -> Played
+pub fn load(c: Core, size: u32, ring: Ring, d: u32, v: u32, memory: &mut [u32]) -> Stored
     ensures { λ r. ⌜ Loaded c size ring d v (now (memory .entry)) r (now (memory .exit)) ⌝ }
 {
-    if can_load(size, ring, d, memory.len()) {
-        return load_value(c, size <= ring.count, ring, d, v, memory);
+    let fate = fate_of(c, size, ring, d, memory.len());
+    if fate == 1 {
+        let at = wrapped(ring.first + ring.count, d) as usize;
+        memory[at] = v % 131072;
+        return Stored {
+            fate: 1,
+            ring: Ring {
+                first: ring.first,
+                count: ring.count + 1,
+            },
+        };
     }
-    Played {
-        core: c,
+    Stored {
+        fate: fate,
         ring: ring,
-        moved: 0,
-        fate: 0,
     }
-}
-
-// An accepted clock that moves one value, in sequential mode, as the parts that it changes: what `clock` says, without the whole core.
-// Where the mode is another, or `clock` would move nothing, nothing moves.
-pub fn take(c: Core, ring: Ring, d: u32, memory: &mut [u32]) -> Taken
-    ensures { λ r. ⌜ Takes c ring d (now (memory .entry)) r (now (memory .exit)) ⌝ }
-{
-    if can_take(c, ring, d, memory.len()) {
-        return taken(c, ring, d, memory);
-    }
-    not_taken(c, ring)
-}
-
-// An accepted clock that moves a group, in simultaneous mode, as the parts that it changes: as `take` for the other mode.
-pub fn take_group(c: Core, ring: Ring, d: u32, memory: &mut [u32]) -> GroupTaken
-    ensures { λ r. ⌜ TakesGroup c ring d (now (memory .entry)) r (now (memory .exit)) ⌝ }
-{
-    if can_take_group(c, ring, d, memory.len()) {
-        return group_taken(c, ring, d, memory);
-    }
-    no_group(c, ring)
 }

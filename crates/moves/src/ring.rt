@@ -1,8 +1,11 @@
-// Where the stored values stand in the sample memory.
+// Where the stored values stand in the sample memory, and how one leaves.
 ghost use Prim.Native.Nat.{_+_, _%_, _<_};
 ghost use mathlib.Core.Path.{_≡_};
+ghost use lib.ListN.{getD};
+ghost use Rattle.rules.specs.Record.{valueSpan};
 ghost use Rattle.moves.specs.Ready.{Ready};
-ghost use Rattle.rules.specs.Place.{placeStore};
+ghost use Rattle.moves.specs.Does.{placeOf};
+ghost use Rattle.moves.specs.Deal.{left};
 use rules::Ring;
 
 // x mod depth, for an x of less than two laps: a division would take longer than the rest of a value's way.
@@ -16,15 +19,37 @@ pub(crate) fn wrapped(x: u32, d: u32) -> u32
     x - d
 }
 
-// 01: "A value is stored at (first + count) mod depth."
-pub(crate) fn put(r: Ring, d: u32, v: u32, memory: &mut [u32]) -> Ring
-    requires { ⌜ Ready d r (now memory) × (r .count < d) ⌝ }
-    ensures { λ s. ⌜ (s ≡ (placeStore d v (record { ring = r; memory = now (memory .entry) })) .ring) × (now (memory .exit) ≡ (placeStore d v (record { ring = r; memory = now (memory .entry) })) .memory) ⌝ }
+// The value that left the front of the ring, and the ring after it.
+pub(crate) struct Passed {
+    pub value: u32,
+    pub ring: Ring,
+}
+
+// 01: "A leaving value moves first on by one, mod depth." "A recirculated value leaves and is then stored."
+pub(crate) fn pass(ring: Ring, again: bool, d: u32, memory: &mut [u32]) -> Passed
+    requires { ⌜ Ready d ring (now memory) × (0 < ring .count) ⌝ }
+    ensures { λ r. ⌜ (r .value ≡ getD (now (memory .entry)) (ring .first) 0 % valueSpan) × (r .ring ≡ (left again d (placeOf ring (now (memory .entry)))) .ring) × (now (memory .exit) ≡ (left again d (placeOf ring (now (memory .entry)))) .memory) ⌝ }
 {
-    let at = wrapped(r.first + r.count, d) as usize;
-    memory[at] = v;
-    Ring {
-        first: r.first,
-        count: r.count + 1,
+    let first = ring.first as usize;
+    let v = memory[first] % 131072;
+    let next = wrapped(ring.first + 1, d);
+    let rest = ring.count - 1;
+    if again {
+        let at = wrapped(next + rest, d) as usize;
+        memory[at] = v;
+        return Passed {
+            value: v,
+            ring: Ring {
+                first: next,
+                count: rest + 1,
+            },
+        };
+    }
+    Passed {
+        value: v,
+        ring: Ring {
+            first: next,
+            count: rest,
+        },
     }
 }

@@ -3,10 +3,10 @@ ghost use Prim.Native.Nat.{_≤_, _<_};
 ghost use mathlib.Core.Path.{_≡_};
 ghost use Rattle.rules.specs.Rates.{referenceOf, wholeReference, sampleRate};
 ghost use Rattle.rates.specs.Promises.{RatesTold};
-use record::is_sound;
 use rules::Board;
 use rules::Clock;
 use rules::Figures;
+use soundness::is_sound;
 
 // 01: "The 512 reference frequencies stand in a table, whole hertz rounded down: 16,000,000·(511 + Nclk)/511."
 const REFERENCE: [u32; 512] = [

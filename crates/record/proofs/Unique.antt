@@ -1,12 +1,9 @@
 -- Each promise says that the outcome equals one thing: two that do are equal.
 use Rattle.rules.proofs.Equal.{determined}
-use Rattle.record.specs.Unique.{Unpowered-unique, Sound-unique, Depth-unique, Limit-unique}
+use Rattle.record.specs.Unique.{Unpowered-unique, Depth-unique, Limit-unique}
 
 pub unpowered-unique : Unpowered-unique
 unpowered-unique r r′ p q = determined (p .board) (q .board)
-
-pub sound-unique : Sound-unique
-sound-unique b r r′ p q = determined (p .told) (q .told)
 
 pub depth-unique : Depth-unique
 depth-unique b r r′ p q = determined (p .told) (q .told)

@@ -1,16 +1,13 @@
 -- The promises of the public functions: each fixes the answer.
 use Prim.Native.Nat.{ℕ, _^_, _≤_}
 use mathlib.Core.Path.{_≡_}
-use mathlib.Core.Bool.{Bool, cond}
+use mathlib.Core.Bool.{cond}
 use lib.Dec.{leb}
 use Rattle.rules.specs.declared.Board.{Board}
-use Rattle.rules.specs.Record.{depthOf, channels, sound, unpowered}
+use Rattle.rules.specs.Record.{depthOf, channels, unpowered}
 
 pub record Unpowered (r : Board) : Type 0 where
   pub board : r ≡ unpowered
-
-pub record SoundTold (b : Board) (r : Bool) : Type 0 where
-  pub told : r ≡ sound b
 
 -- the depth of a record; 0 for a fitted code that is out of range
 pub record DepthTold (b : Board) (r : ℕ) : Type 0 where

@@ -1,15 +1,11 @@
 -- Any two outcomes that a promise allows are equal.
 use Prim.Native.Nat.{ℕ}
 use mathlib.Core.Path.{_≡_}
-use mathlib.Core.Bool.{Bool}
 use Rattle.rules.specs.declared.Board.{Board}
-use Rattle.record.specs.Promises.{Unpowered, SoundTold, DepthTold, LimitTold}
+use Rattle.record.specs.Promises.{Unpowered, DepthTold, LimitTold}
 
 abbrev pub Unpowered-unique : Type 0
 Unpowered-unique = (r r′ : Board) → Unpowered r → Unpowered r′ → r ≡ r′
-
-abbrev pub Sound-unique : Type 0
-Sound-unique = (b : Board) (r r′ : Bool) → SoundTold b r → SoundTold b r′ → r ≡ r′
 
 abbrev pub Depth-unique : Type 0
 Depth-unique = (b : Board) (r r′ : ℕ) → DepthTold b r → DepthTold b r′ → r ≡ r′

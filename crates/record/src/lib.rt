@@ -1,8 +1,9 @@
-// A board record by itself: the unpowered one, whether one is sound, and its depth.
+// A board record by itself: the unpowered one, its depth, and the mask of its kit.
 // Every call takes every input. What each promises is in specs/Promises.antt.
-ghost use Rattle.record.specs.Promises.{Unpowered, SoundTold, DepthTold, LimitTold};
-use crate::soundness::depth_of;
-use crate::soundness::sound;
+ghost use Prim.Native.Nat.{_≤_};
+ghost use mathlib.Core.Path.{_≡_};
+ghost use Rattle.rules.specs.Record.{depthOf};
+ghost use Rattle.record.specs.Promises.{Unpowered, DepthTold, LimitTold};
 use rules::Board;
 use rules::Burst;
 use rules::Calibration;
@@ -16,8 +17,6 @@ use rules::Options;
 use rules::Outputs;
 use rules::Ring;
 use rules::Size;
-
-mod soundness;
 
 // The record that a run starts from. 01: "The unpowered record is all zero."
 pub fn unpowered() -> Board
@@ -84,11 +83,12 @@ pub fn unpowered() -> Board
     }
 }
 
-// Whether a record is sound.
-pub fn is_sound(b: Board) -> bool
-    ensures { λ r. ⌜ SoundTold b r ⌝ }
+// 01: "The depth is 8·2^d values."
+fn depth_of(d: u32) -> u32
+    requires { ⌜ d ≤ 15 ⌝ }
+    ensures { λ r. ⌜ (r ≡ depthOf d) × (8 ≤ r) × (r ≤ 262144) ⌝ }
 {
-    sound(b)
+    8u32 << d
 }
 
 // The depth of a record, 0 where its fitted code is out of range.

@@ -13,12 +13,12 @@ ghost use Rattle.rules.specs.declared.Event.the-variants.{PowerUp as powerUp};
 ghost use Rattle.rules.specs.Laws.Own.{ownWrite, ownNumber};
 ghost use Rattle.rules.specs.Laws.Refusals.{Ordinary};
 use record::depth;
-use record::is_sound;
 use rules::Board;
 use rules::Core;
 use rules::Event;
 use rules::Settings;
 use rules::Signal;
+use soundness::is_sound;
 
 // "power-up setting out of range" is what this denies. The nesting and the last `true` are those of `all` over the rules' list.
 pub(crate) fn in_range(x: Settings) -> bool

@@ -1,7 +1,7 @@
 -- The entries of the parts of a record, in the order of the row: what the code writes part by part.
 use Prim.Native.Nat.{ℕ}
 use mathlib.Core.Bool.{Bool}
-use mathlib.Core.List.{List, [], _∷_, _++_}
+use mathlib.Core.List.{List, [], _∷_}
 use Rattle.rules.specs.declared.Options.{Options}
 use Rattle.rules.specs.declared.Size.{Size}
 use Rattle.rules.specs.declared.Control.{Control}
@@ -12,16 +12,11 @@ use Rattle.rules.specs.declared.Burst.{Burst}
 use Rattle.rules.specs.declared.Load.{Load}
 use Rattle.rules.specs.declared.Lost.{Lost}
 use Rattle.rules.specs.declared.Outputs.{Outputs}
-use Rattle.rules.specs.declared.Core.{Core}
 use Rattle.rules.specs.declared.Ring.{Ring}
-use Rattle.rules.specs.declared.Board.{Board}
 use Rattle.rules.specs.Bits.{flag}
 
-abbrev pub optionsRow : Options → List ℕ
-optionsRow o = o .range ∷ o .filter ∷ o .kit ∷ o .firmware ∷ []
-
-abbrev pub sizeRow : Size → List ℕ
-sizeRow s = s .fitted ∷ s .code ∷ []
+abbrev pub headRow : Bool → Options → Size → List ℕ
+headRow powered o s = flag powered ∷ o .range ∷ o .filter ∷ o .kit ∷ o .firmware ∷ s .fitted ∷ s .code ∷ []
 
 abbrev pub controlRow : Control → List ℕ
 controlRow c =
@@ -33,34 +28,10 @@ modesRow m c =
     flag (m .external) ∷ flag (m .enabled) ∷ flag (m .circular)
     ∷ flag (c .running) ∷ flag (c .failed) ∷ flag (c .calibrated) ∷ []
 
-abbrev pub clockRow : Clock → List ℕ
-clockRow c = c .divisor ∷ c .nclk ∷ []
-
-abbrev pub marksRow : Clock → Burst → Load → Lost → List ℕ
-marksRow c b l o =
-    flag (c .alt) ∷ flag (c .settling) ∷ flag (b .running) ∷ flag (b .software)
+abbrev pub clockRow : Clock → Burst → Load → Lost → List ℕ
+clockRow c b l o =
+    c .divisor ∷ c .nclk ∷ flag (c .alt) ∷ flag (c .settling) ∷ flag (b .running) ∷ flag (b .software)
     ∷ flag (l .pending) ∷ flag (l .opened) ∷ flag (o .full) ∷ flag (o .closed) ∷ []
 
-abbrev pub channelsRow : Outputs → List ℕ
-channelsRow o = o .mask ∷ o .cursor ∷ []
-
-abbrev pub ringRow : Ring → List ℕ
-ringRow r = r .first ∷ r .count ∷ []
-
-abbrev pub headRow : Bool → Options → Size → List ℕ
-headRow powered o s = flag powered ∷ optionsRow o ++ sizeRow s
-
-abbrev pub coreRow : Core → List ℕ
-coreRow c =
-    controlRow (c .control)
-    ++ modesRow (c .mode) (c .calibration)
-    ++ clockRow (c .clock)
-    ++ marksRow (c .clock) (c .burst) (c .load) (c .lost)
-    ++ channelsRow (c .outputs)
-
--- all but the levels
-abbrev pub frontRow : Board → List ℕ
-frontRow b =
-    headRow (b .core .powered) (b .core .options) (b .size)
-    ++ coreRow (b .core)
-    ++ flag (b .request) ∷ ringRow (b .ring)
+abbrev pub placesRow : Outputs → Bool → Ring → List ℕ
+placesRow o request r = o .mask ∷ o .cursor ∷ flag request ∷ r .first ∷ r .count ∷ []

@@ -1,4 +1,4 @@
--- The bench table holds, by computation: the list of the rows that do not show their numbers is empty.
+-- The bench table and the examples hold, by computation.
 use Prim.Native.Nat.{ℕ}
 use mathlib.Core.Path.{_≡_, refl, ap₂}
 use mathlib.Core.Bool.{Bool, true, false, _&&_, false≢true}
@@ -7,6 +7,7 @@ use borrow.Author.Tests.{eqb-true}
 use lib.Dec.{eqb}
 use Rattle.rules.specs.Types.{Event}
 use Rattle.rules.specs.Bench.{seen, isRead, isLoad, isSignal, bitRead, fates, moved, levels, held, rate, Sight, Case, table, AllShow, AllCases, none, next, Bench}
+use Rattle.rules.specs.Examples.{entries, entriesOverJunk, examples, Examples}
 use Rattle.rules.proofs.Choice.{and-both}
 use Rattle.rules.proofs.Open.{rules-open}
 
@@ -55,3 +56,10 @@ table-true = refl
 
 pub bench : Bench
 bench = cases-shown table table-true
+
+examples-true : all-true examples ≡ true
+unfolding all-true showing alike examples seen isRead isSignal bitRead moved held entries entriesOverJunk rules-open
+examples-true = refl
+
+pub examples-shown : Examples
+examples-shown = cases-shown examples examples-true

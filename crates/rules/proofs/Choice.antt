@@ -1,13 +1,12 @@
 -- Choices by a test, and what tests joined by `&&`, `||`, `all` say of their parts.
-use Prim.Native.Nat.{ℕ, zero, suc, _<_, suc-le-suc}
+use Prim.Native.Nat.{ℕ, zero, suc, _<_}
 use mathlib.Core.Path.{_≡_, refl}
 use mathlib.Core.Bool.{Bool, true, false, not, _&&_, _||_, cond, true≢false, false≢true}
 use mathlib.Core.List.{List, [], _∷_}
-use native.Mathlib.Nat.{not-suc-le-zero, zero-lt-suc}
+use native.Mathlib.Nat.{not-suc-le-zero}
 use native.Mathlib.Decide.{ℕ-discrete}
 use native.Mathlib.Omega.{arith}
-use lib.ListN.{length, getD}
-use Rattle.rules.specs.Bits.{all, some, onlyIf}
+use Rattle.rules.specs.Bits.{all, onlyIf}
 
 -- ---- cond
 
@@ -57,16 +56,6 @@ pub or-right : (x y : Bool) → y ≡ true → x || y ≡ true
 or-right true y h = refl
 or-right false y h = h
 
--- x and not y fails exactly when x says y
-pub and-not-to : (x y : Bool) → x && not y ≡ false → x ≡ true → y ≡ true
-and-not-to true true h k = refl
-and-not-to true false h k = absurd (true≢false h)
-and-not-to false y h k = absurd (false≢true k)
-
-pub and-not-from : (x y : Bool) → (x ≡ true → y ≡ true) → x && not y ≡ false
-and-not-from true y f = rw (f refl)
-and-not-from false y f = refl
-
 -- ---- all and onlyIf, shut
 
 pub all-cons : (t : Bool) (ts : List Bool) → all (t ∷ ts) ≡ true → (t ≡ true) × (all ts ≡ true)
@@ -100,22 +89,6 @@ pub not-and-from : (a b : Bool) → (a ≡ true → b ≡ false) → not (a && b
 not-and-from true true f = absurd (true≢false (f refl))
 not-and-from true false f = refl
 not-and-from false b f = refl
-
--- ---- some, by the test that holds
-
-pub some-at : (ts : List Bool) (i : ℕ) → getD ts i false ≡ true → some ts ≡ true
-unfolding some
-some-at [] i h = absurd (false≢true h)
-some-at (t ∷ ts) zero h = or-left t (some ts) h
-some-at (t ∷ ts) (suc i) h = or-right t (some ts) (some-at ts i h)
-
-pub some-index : (ts : List Bool) → some ts ≡ true → (i : ℕ) × (i < length ts) × (getD ts i false ≡ true)
-unfolding some
-some-index [] h = absurd (false≢true h)
-some-index (true ∷ ts) h = (0, zero-lt-suc (length ts), refl)
-some-index (false ∷ ts) h =
-    let r = some-index ts h in
-    (suc (r .0), suc-le-suc (r .1), r .2)
 
 -- ---- A test that does not hold
 

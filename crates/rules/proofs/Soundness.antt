@@ -3,19 +3,15 @@
 use Prim.Native.Nat.{ℕ, _^_, _≤_, _<_}
 use mathlib.Core.Path.{_≡_, refl, sym, _∙_}
 use mathlib.Core.Bool.{Bool, true, false, _||_, true≢false}
-use native.Mathlib.Nat.{le-of-eq}
 use native.Mathlib.Decide.{decLt}
 use native.Mathlib.Omega.{arith}
 use borrow.Author.Tests.{ltb-true, leb-true, le-leb, lt-ltb, eqb-true, eq-eqb}
-use lib.ListN.{length, replicate, length-replicate}
-use Rattle.rules.specs.Types.{Options, Burst, Load, Outputs, Core, Board}
+use Rattle.rules.specs.Types.{Options, Size, Burst, Load, Outputs, Core, Ring, Board}
 use Rattle.rules.specs.Bits.{bit}
-use Rattle.rules.specs.Record.{State, depth, channels, optionsInRange, soundCore, soundRing, sound}
-use Rattle.rules.specs.Clocks.{clock}
-use Rattle.rules.specs.Laws.Soundness.{Sound, Stands, Sound-exactly}
+use Rattle.rules.specs.Record.{depthOf, channels, optionsInRange, soundCore, soundRing, sound}
+use Rattle.rules.specs.Laws.Soundness.{Sound, Sound-exactly}
 use Rattle.rules.proofs.Choice.{and-both, both-and, or-left, or-right, all-cons, cons-all, all-nil, onlyIf-to, onlyIf-from, not-and-to, not-and-from}
 use Rattle.rules.proofs.Masks.{bit-below, below-bits}
-use Rattle.rules.proofs.Steps.{Fit, fit-sound, sound-fit}
 
 -- ---- Soundness by parts
 
@@ -48,6 +44,12 @@ pub record SoundCore (c : Core) : Type 0 where
   pub load : SoundLoad (c .mode .circular) (c .load)
   pub burst : SoundBurst (c .control .bursts) (c .burst)
   pub calibrating : c .calibration .running ≡ true → c .calibration .calibrated ≡ false
+
+pub record SoundRing (z : Size) (r : Ring) : Type 0 where
+  pub fitted : z .fitted ≤ 15
+  pub code : z .code ≤ 15
+  pub first : r .first < depthOf (z .fitted)
+  pub count : r .count ≤ depthOf (z .fitted)
 
 -- ---- The tests are the parts
 
@@ -120,6 +122,20 @@ core-from c s =
     (cons-all _ _ (onlyIf-from _ _ (s .burst .software))
     (cons-all _ _ (not-and-from (c .calibration .running) (c .calibration .calibrated) (s .calibrating)) all-nil)))))))))))
 
+ring-to : (z : Size) (r : Ring) → soundRing z r ≡ true → SoundRing z r
+unfolding soundRing
+ring-to z r h =
+    let a = all-cons _ _ h in
+    let b = all-cons _ _ (a .1) in
+    let c = all-cons _ _ (b .1) in
+    let d = all-cons _ _ (c .1) in
+    record { fitted = leb-true _ _ (a .0); code = leb-true _ _ (b .0); first = ltb-true _ _ (c .0); count = leb-true _ _ (d .0) }
+
+pub ring-from : (z : Size) (r : Ring) → SoundRing z r → soundRing z r ≡ true
+unfolding soundRing
+ring-from z r s =
+    cons-all _ _ (le-leb _ _ (s .fitted)) (cons-all _ _ (le-leb _ _ (s .code)) (cons-all _ _ (lt-ltb _ _ (s .first)) (cons-all _ _ (le-leb _ _ (s .count)) all-nil)))
+
 -- ---- The facts of Laws/Soundness are the parts and the ring
 
 pub sound-core : (b : Board) → Sound b → SoundCore (b .core)
@@ -142,58 +158,39 @@ fits n v h k t = go (decLt k n)
     go (yes l) = l
     go (no l) = absurd (true≢false (sym t ∙ bit-below n k v h (omega arith)))
 
-pub stands-fit : (s : State) → Stands s → Fit s
-stands-fit s h =
+pub sound-ring : (b : Board) → Sound b → SoundRing (b .size) (b .ring)
+sound-ring b s = record { fitted = s .fitted; code = s .code; first = s .first; count = s .count }
+
+pub sound-parts : (b : Board) → SoundCore (b .core) → SoundRing (b .size) (b .ring) → Sound b
+sound-parts b c r =
     record {
-      good = record { first-lt = h .sound .first; count-le = h .sound .count; enough = h .enough };
-      fitted = h .sound .fitted;
-      code = h .sound .code;
+      powered = c .powered;
+      fitted = r .fitted;
+      range = c .options .range;
+      filter = c .options .filter;
+      kit = c .options .kit;
+      firmware = c .options .firmware;
+      first = r .first;
+      count = r .count;
+      mask = fits _ _ (c .outputs .mask);
+      cursor = c .outputs .cursor;
+      zeroed = c .outputs .zeroed;
+      code = r .code;
+      selection = c .selection;
+      nclk = c .nclk;
+      pending = c .load .pending;
+      opened = c .load .opened;
+      apart = c .load .apart;
+      running = c .burst .running;
+      software = c .burst .software;
+      calibrating = c .calibrating;
     }
-
--- A sound core over a fitting ring is a sound board over enough memory.
-pub fit-stands : (s : State) → SoundCore (s .board .core) → Fit s → Stands s
-fit-stands s c f =
-    record {
-      sound = record {
-        powered = c .powered;
-        fitted = f .fitted;
-        range = c .options .range;
-        filter = c .options .filter;
-        kit = c .options .kit;
-        firmware = c .options .firmware;
-        first = f .good .first-lt;
-        count = f .good .count-le;
-        mask = fits _ _ (c .outputs .mask);
-        cursor = c .outputs .cursor;
-        zeroed = c .outputs .zeroed;
-        code = f .code;
-        selection = c .selection;
-        nclk = c .nclk;
-        pending = c .load .pending;
-        opened = c .load .opened;
-        apart = c .load .apart;
-        running = c .burst .running;
-        software = c .burst .software;
-        calibrating = c .calibrating;
-      };
-      enough = f .good .enough;
-    }
-
--- the board over a memory that is just long enough
-overEnough : Board → State
-overEnough b = record { board = b; memory = replicate (depth b) 0 }
-
-enough-long : (b : Board) → depth b ≤ length ((overEnough b) .memory)
-unfolding overEnough
-enough-long b = le-of-eq (sym (length-replicate {A = ℕ} (depth b) 0))
 
 pub sound-exactly : Sound-exactly
-unfolding sound overEnough
+unfolding sound
 sound-exactly b = (
   λ h.
       let t = and-both (soundCore (b .core)) (soundRing (b .size) (b .ring)) h in
-      (fit-stands (overEnough b) (core-to (b .core) (t .0)) (sound-fit (overEnough b) (t .1) (enough-long b))) .sound,
-  λ h.
-      both-and _ _ (core-from (b .core) (sound-core b h))
-      (fit-sound (overEnough b) (stands-fit (overEnough b) (record { sound = h; enough = enough-long b }))),
+      sound-parts b (core-to (b .core) (t .0)) (ring-to (b .size) (b .ring) (t .1)),
+  λ h. both-and _ _ (core-from (b .core) (sound-core b h)) (ring-from (b .size) (b .ring) (sound-ring b h)),
 )

@@ -4,7 +4,7 @@ use mathlib.Core.Logic.{_↔_}
 use mathlib.Core.Bool.{Bool, true, false, not, _&&_, true≢false}
 use Rattle.rules.specs.Types.{Core}
 use Rattle.rules.specs.Clocks.{closed, clockReady, burstReady}
-use Rattle.rules.specs.Laws.Moved.{Closed}
+use Rattle.rules.specs.Laws.Closed.{Closed}
 use Rattle.rules.proofs.Choice.{and-both, both-and, not-both, not-true}
 
 not-from : (t : Bool) → t ≡ false → not t ≡ true

@@ -69,7 +69,7 @@ abbrev pub idle : Core → Bool
 idle c = eqb (c .outputs .mask) 0 || burstReady c
 
 -- 01: "sequential mode moves one value, if any"; "Simultaneous mode moves as many values as the mask has ones, ascending, only if
--- that many are stored". The list of active channels is as long as the mask has ones (Laws/Moved). Reading: no part of a group moves
+-- that many are stored". The list of active channels is as long as the mask has ones (Moved in `laws`). Reading: no part of a group moves
 -- (DECISIONS 19).
 unfoldable pub moving : Core → List ℕ → ℕ
 moving c buf = cond (idle c || ltb (length buf) (length (targets c))) 0 (length (targets c))

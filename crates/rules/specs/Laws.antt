@@ -3,10 +3,7 @@ pub mod Soundness
 pub mod Refusals
 pub mod Own
 pub mod Refused
-pub mod Moved
-pub mod Frames
-pub mod Loads
-pub mod Places
+pub mod Closed
 pub mod Readings
 pub mod Initial
 pub mod Written

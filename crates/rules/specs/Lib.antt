@@ -16,4 +16,5 @@ pub mod Step
 pub mod Rates
 pub mod Session
 pub mod Bench
+pub mod Examples
 pub mod Laws

@@ -22,17 +22,12 @@ event-at-requires c κs =
 step-requires : tie.Need-step-requires
 step-requires c κs = search needs
 
-put-answer-requires : tie.Need-put-answer-requires
-put-answer-requires c κs =
-    let stepped = c .before .before .before .before .before in
+put-reply-requires : tie.Need-put-reply-requires
+put-reply-requires c κs =
+    let stepped = c .before .before .before .before in
     let test = stepped .before .before .before .before .before in
-    (test .before .status-of .ensures .1 (test .if1 .left)) .answer-long
-
-put-record-requires : tie.Need-put-record-requires
-put-record-requires c κs =
-    let stepped = c .before .before .before .before .before .before .before .before .before in
-    let test = stepped .before .before .before .before .before in
-    (test .before .status-of .ensures .1 (test .if1 .left)) .record-long
+    let fits = test .before .status-of .ensures .1 (test .if1 .left) in
+    (fits .record-long, fits .answer-long)
 
 same-length : tie.Need-same-length
 same-length c = search needs
@@ -45,16 +40,15 @@ same-length-3 c = search needs
 
 returns-2 : tie.Need-returns-2
 returns-2 c =
-    let written = c .before .before in
-    let answered = written .before .before .before .before in
-    let stepped = answered .before .before .before .before .before .before in
+    let put = c .before .before .before .before in
+    let stepped = put .before .before .before .before .before in
     let read = stepped .before .before .before in
     let test = read .before .before in
     let fine = test .before in
     let z = test .if1 .left in
     understood _ _ _ _ _ _ _ _ _ _ (sym (fine .status-of .ensures .0) ∙ z) ((fine .status-of .ensures .1 z) .record-long)
     (read .board-at .ensures) (stepped .before .event-at .ensures) (stepped .step .ensures)
-    (answered .put-answer .ensures) (written .put-record .ensures)
+    (put .put-reply .ensures .1) (put .put-reply .ensures .0)
 
 pub nergutsai-event-spec : {M : Type 1} → statement M
 nergutsai-event-spec =
@@ -65,8 +59,7 @@ nergutsai-event-spec =
     board-at-requires
     event-at-requires
     step-requires
-    put-answer-requires
-    put-record-requires
+    put-reply-requires
     same-length
     same-length-2
     same-length-3

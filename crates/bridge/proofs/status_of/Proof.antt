@@ -21,16 +21,13 @@ returns-3 c = (
   λ k. absurd (omega arith),
 )
 
-shared-slice-read-if4 : tie.Need-shared-slice-read-if4
-shared-slice-read-if4 c = search needs
-
-shared-slice-read-if4-2 : tie.Need-shared-slice-read-if4-2
-shared-slice-read-if4-2 c = search needs
+shared-slice-read-kind : tie.Need-shared-slice-read-kind
+shared-slice-read-kind c = search needs
 
 returns-4 : tie.Need-returns-4
 unfolding status
 returns-4 c =
-    let lengths = c .before .before .before in (
+    let lengths = c .before .before in (
       rw (eq-eqb _ _ (lengths .before .before .if1 .left), eq-eqb _ _ (lengths .before .if2 .left), eq-eqb _ _ (lengths .if3 .left), c .if4 .taken),
       λ k. absurd (omega arith),
     )
@@ -38,7 +35,7 @@ returns-4 c =
 returns-5 : tie.Need-returns-5
 unfolding status
 returns-5 c =
-    let lengths = c .before .before .before in (
+    let lengths = c .before .before in (
       rw (eq-eqb _ _ (lengths .before .before .if1 .left), eq-eqb _ _ (lengths .before .if2 .left), eq-eqb _ _ (lengths .if3 .left), c .if4 .left),
       λ _. record { record-long = lengths .before .before .if1 .left; event-long = lengths .before .if2 .left; answer-long = lengths .if3 .left },
     )
@@ -50,7 +47,6 @@ status-of-spec =
     returns
     returns-2
     returns-3
-    shared-slice-read-if4
-    shared-slice-read-if4-2
+    shared-slice-read-kind
     returns-4
     returns-5)

@@ -6,10 +6,10 @@ use Rattle.corpus.proofs.main.Statement.{statement}
 use Rattle.corpus.proofs.main.Tie as tie
 
 abbrev Inv-loop : tie.InvT-loop
-Inv-loop memory₀ out₀ number₀ memory out number = Unit {0}
+Inv-loop memory₀ number₀ memory number = Unit {0}
 
 abbrev μ-loop : tie.MeasureT-loop
-μ-loop memory₀ out₀ number₀ memory out number = 2 ^ 64 - number
+μ-loop memory₀ number₀ memory number = 2 ^ 64 - number
 
 loop-holds : tie.Need-loop-holds Inv-loop μ-loop
 loop-holds c = search needs

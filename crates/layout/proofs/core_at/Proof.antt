@@ -1,44 +1,45 @@
 -- The parts are what the parts' functions read.
-use borrow.Author.Needs.{needs}
-use Rattle.layout.specs.Layout.{coreAt}
+use native.Mathlib.Omega.{arith}
+use denote.Ref.{now}
+use Rattle.layout.specs.Layout.{at, on, coreAt}
 use Rattle.layout.proofs.core_at.Statement.{statement}
 use Rattle.layout.proofs.core_at.Tie as tie
 
 shared-slice-read-t3 : tie.Need-shared-slice-read-t3
-shared-slice-read-t3 c = search needs
+shared-slice-read-t3 c = omega (arith, c .before .before .pre)
 
 options-at-requires : tie.Need-options-at-requires
-options-at-requires c κs = search needs
+options-at-requires c κs = c .before .before .pre
 
 control-at-requires : tie.Need-control-at-requires
-control-at-requires c κs = search needs
+control-at-requires c κs = c .before .before .before .pre
 
 mode-at-requires : tie.Need-mode-at-requires
-mode-at-requires c κs = search needs
+mode-at-requires c κs = c .before .before .before .before .pre
 
 calibration-at-requires : tie.Need-calibration-at-requires
-calibration-at-requires c κs = search needs
+calibration-at-requires c κs = c .before .before .before .before .before .pre
 
 clock-at-requires : tie.Need-clock-at-requires
-clock-at-requires c κs = search needs
+clock-at-requires c κs = c .before .before .before .before .before .before .pre
 
 burst-at-requires : tie.Need-burst-at-requires
-burst-at-requires c κs = search needs
+burst-at-requires c κs = c .before .before .before .before .before .before .before .pre
 
 load-at-requires : tie.Need-load-at-requires
-load-at-requires c κs = search needs
+load-at-requires c κs = c .before .before .before .before .before .before .before .before .pre
 
 lost-at-requires : tie.Need-lost-at-requires
-lost-at-requires c κs = search needs
+lost-at-requires c κs = c .before .before .before .before .before .before .before .before .before .pre
 
-shared-slice-read-t15 : tie.Need-shared-slice-read-t15
-shared-slice-read-t15 c = search needs
+shared-slice-read-t14 : tie.Need-shared-slice-read-t14
+shared-slice-read-t14 c = omega (arith, c .before .before .before .before .before .before .before .before .before .before .before .pre)
 
-shared-slice-read-t17 : tie.Need-shared-slice-read-t17
-shared-slice-read-t17 c = search needs
+shared-slice-read-t16 : tie.Need-shared-slice-read-t16
+shared-slice-read-t16 c = omega (arith, c .before .before .before .before .before .before .before .before .before .before .before .before .pre)
 
 levels-at-requires : tie.Need-levels-at-requires
-levels-at-requires c κs = search needs
+levels-at-requires c κs = c .before .before .before .before .before .before .before .before .before .before .before .before .pre
 
 returns : tie.Need-returns
 unfolding coreAt
@@ -50,17 +51,20 @@ returns c =
     let calibration = clock .before in
     let mode = calibration .before in
     let control = mode .before in
-    rw (
-      c .levels-at .ensures,
-      lost .lost-at .ensures,
-      load .load-at .ensures,
-      burst .burst-at .ensures,
-      clock .clock-at .ensures,
-      calibration .calibration-at .ensures,
-      mode .mode-at .ensures,
-      control .control-at .ensures,
-      control .before .options-at .ensures,
-    )
+    let options = control .before in
+    let row = now (options .before .before .before .args .row) in
+    λ i. record {
+      powered = on row 0;
+      options = options .options-at .ensures i;
+      control = control .control-at .ensures i;
+      mode = mode .mode-at .ensures i;
+      calibration = calibration .calibration-at .ensures i;
+      clock = clock .clock-at .ensures i;
+      burst = burst .burst-at .ensures i;
+      load = load .load-at .ensures i;
+      lost = lost .lost-at .ensures i;
+      outputs = record { mask = at row 30; cursor = at row 31; levels = c .levels-at .ensures i };
+    }
 
 pub core-at-spec : {M : Type 1} → statement M
 core-at-spec =
@@ -75,7 +79,7 @@ core-at-spec =
     burst-at-requires
     load-at-requires
     lost-at-requires
-    shared-slice-read-t15
-    shared-slice-read-t17
+    shared-slice-read-t14
+    shared-slice-read-t16
     levels-at-requires
     returns)

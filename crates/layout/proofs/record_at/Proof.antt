@@ -5,19 +5,19 @@ use Rattle.layout.proofs.record_at.Statement.{statement}
 use Rattle.layout.proofs.record_at.Tie as tie
 
 core-at-requires : tie.Need-core-at-requires
-core-at-requires c κs = search needs
+core-at-requires c κs = c .before .pre
 
 size-at-requires : tie.Need-size-at-requires
-size-at-requires c κs = search needs
+size-at-requires c κs = c .before .before .pre
 
 shared-slice-read-t5 : tie.Need-shared-slice-read-t5
 shared-slice-read-t5 c = search needs
 
-shared-slice-read-t9 : tie.Need-shared-slice-read-t9
-shared-slice-read-t9 c = search needs
+shared-slice-read-t8 : tie.Need-shared-slice-read-t8
+shared-slice-read-t8 c = search needs
 
-shared-slice-read-t11 : tie.Need-shared-slice-read-t11
-shared-slice-read-t11 c = search needs
+shared-slice-read-t10 : tie.Need-shared-slice-read-t10
+shared-slice-read-t10 c = search needs
 
 returns : tie.Need-returns
 unfolding boardAt
@@ -32,6 +32,6 @@ record-at-spec =
     core-at-requires
     size-at-requires
     shared-slice-read-t5
-    shared-slice-read-t9
-    shared-slice-read-t11
+    shared-slice-read-t8
+    shared-slice-read-t10
     returns)

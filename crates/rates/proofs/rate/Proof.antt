@@ -8,7 +8,7 @@ use Rattle.rules.specs.Record.{sound}
 use Rattle.rules.specs.Refusals.{firstOf}
 use Rattle.rules.specs.Rates.{rateRefusal, rates}
 use Rattle.rules.proofs.Soundness.{sound-exactly}
-use Rattle.record.specs.Promises.{SoundTold}
+use Rattle.soundness.specs.Promises.{SoundTold}
 use Rattle.rates.proofs.rate.Statement.{statement}
 use Rattle.rates.proofs.rate.Tie as tie
 

@@ -1,37 +1,52 @@
--- The parts' stores in order are the whole's.
+-- The entries one after another, each bool as its flag.
+use native.Mathlib.Omega.{arith}
+use lib.ListN.{length-set}
+use Rattle.rows.proofs.Flags.{flag-cast}
 use borrow.Author.Needs.{needs}
 use Rattle.rows.proofs.put_head.Statement.{statement}
 use Rattle.rows.proofs.put_head.Tie as tie
 
-slice-aggregate-put-flags : tie.Need-slice-aggregate-put-flags
-slice-aggregate-put-flags c = search needs
+cast-row : tie.Need-cast-row
+cast-row c = search needs
 
-put-flags-requires : tie.Need-put-flags-requires
-put-flags-requires c κs = search needs
+slice-write-row : tie.Need-slice-write-row
+slice-write-row c = omega arith
 
-put-options-requires : tie.Need-put-options-requires
-put-options-requires c κs = search needs
+slice-write-row-2 : tie.Need-slice-write-row-2
+slice-write-row-2 c = simp length-set (omega arith)
 
-put-size-requires : tie.Need-put-size-requires
-put-size-requires c κs = search needs
+slice-write-row-3 : tie.Need-slice-write-row-3
+slice-write-row-3 c = simp length-set (omega arith)
+
+slice-write-row-4 : tie.Need-slice-write-row-4
+slice-write-row-4 c = simp length-set (omega arith)
+
+slice-write-row-5 : tie.Need-slice-write-row-5
+slice-write-row-5 c = simp length-set (omega arith)
+
+slice-write-row-6 : tie.Need-slice-write-row-6
+slice-write-row-6 c = simp length-set (omega arith)
+
+slice-write-row-7 : tie.Need-slice-write-row-7
+slice-write-row-7 c = simp length-set (omega arith)
 
 same-length : tie.Need-same-length
-same-length c = search needs
+same-length c = simp length-set (omega arith)
 
 returns : tie.Need-returns
-returns c =
-    let size = c .before .before in
-    let options = size .before .before .before .before in
-    let powered = options .before .before .before .before in
-    rw (size .put-size .ensures, options .put-options .ensures, powered .put-flags .ensures)
+returns c = simp flag-cast
 
 pub put-head-spec : {M : Type 1} → statement M
 put-head-spec =
     tie.close
     (tie.spec
-    slice-aggregate-put-flags
-    put-flags-requires
-    put-options-requires
-    put-size-requires
+    cast-row
+    slice-write-row
+    slice-write-row-2
+    slice-write-row-3
+    slice-write-row-4
+    slice-write-row-5
+    slice-write-row-6
+    slice-write-row-7
     same-length
     returns)

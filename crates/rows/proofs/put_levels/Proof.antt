@@ -14,11 +14,11 @@ Inv-loop row₀ levels i₀ row i = Stored row₀ 35 levels i row
 abbrev μ-loop : tie.MeasureT-loop
 μ-loop row₀ levels i₀ row i = 20 - i
 
-twenty : (c : tie.Start Inv-loop μ-loop) → length (c .args .t1) ≡ 20
+twenty : (c : tie.Start Inv-loop μ-loop) → length (c .args .o .levels) ≡ 20
 twenty c = search needs
 
 loop-holds : tie.Need-loop-holds Inv-loop μ-loop
-loop-holds c = stored-none _ _ _ (omega (arith, twenty (c .before)))
+loop-holds c = stored-none _ _ _ (omega (arith, twenty (c .before .before)))
 
 mul-wide : tie.Need-mul-wide Inv-loop μ-loop
 mul-wide c = omega arith
@@ -47,14 +47,14 @@ loop-less c = omega arith
 loop-again : tie.Need-loop-again Inv-loop μ-loop
 loop-again c =
     let at-loop = c .before .before in
-    let long = twenty (at-loop .before .before) in
+    let long = twenty (at-loop .before .before .before) in
     stored-next (at-loop .loop .inv) (omega arith) _ (c .wide .ensures)
 
 same-length : tie.Need-same-length Inv-loop μ-loop
 same-length c = stored-length (c .before .loop .inv)
 
 returns : tie.Need-returns Inv-loop μ-loop
-returns c = let long = twenty (c .before .before .before) in (long, stored-all (c .before .loop .inv) (omega arith))
+returns c = let long = twenty (c .before .before .before .before) in (long, stored-all (c .before .loop .inv) (omega arith))
 
 pub put-levels-spec : {M : Type 1} → statement M
 put-levels-spec =

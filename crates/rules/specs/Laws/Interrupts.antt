@@ -11,7 +11,7 @@ use Rattle.rules.specs.Record.{State, stored, activeSize}
 use Rattle.rules.specs.Interrupt.{condition}
 use Rattle.rules.specs.Refusals.{refusal}
 use Rattle.rules.specs.Step.{step}
-use Rattle.rules.specs.Laws.Moved.{Closed}
+use Rattle.rules.specs.Laws.Closed.{Closed}
 
 -- ---- Words
 

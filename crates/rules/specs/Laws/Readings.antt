@@ -7,7 +7,7 @@ use Rattle.rules.specs.Types.{Board}
 use Rattle.rules.specs.Bits.{bit}
 use Rattle.rules.specs.Record.{activeSize}
 use Rattle.rules.specs.Registers.{readAt}
-use Rattle.rules.specs.Laws.Moved.{Closed}
+use Rattle.rules.specs.Laws.Closed.{Closed}
 
 abbrev pub control : Board → ℕ
 control b = readAt b 0x00

@@ -1,12 +1,10 @@
--- Whole runs: a run's beginning is the run of its beginning, and after an accepted power-up no event is refused 2 or 3.
-use Prim.Native.Nat.{ℕ, _<_}
+-- Whole runs: a run's beginning is the run of its beginning.
+use Prim.Native.Nat.{ℕ}
 use mathlib.Core.Path.{_≡_}
-use mathlib.Core.Logic.{_≢_}
-use mathlib.Core.List.{List, [], _∷_, _++_}
-use lib.ListN.{length, take}
-use Rattle.rules.specs.Types.{Settings, Event, powerUp, write, read, signal}
-use Rattle.rules.specs.Record.{State, depthOf}
-use Rattle.rules.specs.Step.{Outcome, step}
+use mathlib.Core.List.{List, _++_}
+use lib.ListN.{take}
+use Rattle.rules.specs.Types.{Event}
+use Rattle.rules.specs.Record.{State}
 use Rattle.rules.specs.Session.{outcomes, after}
 
 -- Two sessions one after the other are one session.
@@ -19,22 +17,3 @@ Outcomes-append = (s : State) (es fs : List Event) → outcomes s (es ++ fs) ≡
 -- The first n outcomes are those of the first n events.
 abbrev pub Outcomes-take : Type 0
 Outcomes-take = (s : State) (n : ℕ) (es : List Event) → outcomes s (take n es) ≡ take n (outcomes s es)
-
--- ---- After an accepted power-up
-
--- never 3; 2 only a power-up that asks for more than the memory holds
-abbrev pub NeverStopped : List ℕ → Event → Outcome → Type 0
-NeverStopped memory (powerUp x) o = (o .answer .refusal ≢ 3) × (o .answer .refusal ≡ 2 → length memory < depthOf (x .fitted))
-NeverStopped memory (write a v) o = (o .answer .refusal ≢ 3) × (o .answer .refusal ≢ 2)
-NeverStopped memory (read a) o = (o .answer .refusal ≢ 3) × (o .answer .refusal ≢ 2)
-NeverStopped memory (signal x) o = (o .answer .refusal ≢ 3) × (o .answer .refusal ≢ 2)
-
-unfoldable pub AllNeverStopped : State → List Event → Type 0
-AllNeverStopped s [] = Unit {0}
-AllNeverStopped s (e ∷ es) = NeverStopped (s .memory) e (step s e) × AllNeverStopped ((step s e) .state) es
-
-abbrev pub Run-never-stopped : Type 0
-Run-never-stopped =
-    (s : State) (x : Settings) (es : List Event)
-    → (step s (powerUp x)) .answer .refusal ≡ 0
-    → AllNeverStopped ((step s (powerUp x)) .state) es

@@ -1,13 +1,12 @@
--- Soundness as facts, clause by clause, and that it lasts.
+-- Soundness as facts, clause by clause.
 use Prim.Native.Nat.{ℕ, _≤_, _<_}
 use mathlib.Core.Path.{_≡_}
 use mathlib.Core.Logic.{_↔_}
 use mathlib.Core.Bool.{true, false}
 use lib.ListN.{length}
-use Rattle.rules.specs.Types.{Settings, Board, Event, powerUp}
+use Rattle.rules.specs.Types.{Board}
 use Rattle.rules.specs.Bits.{bit}
 use Rattle.rules.specs.Record.{State, depth, channels, sound}
-use Rattle.rules.specs.Step.{step}
 
 -- 01: "A record is sound when: .."
 pub record Sound (b : Board) : Type 0 where
@@ -45,22 +44,8 @@ pub record Stands (s : State) : Type 0 where
   pub sound : Sound (s .board)
   pub enough : depth (s .board) ≤ length (s .memory)
 
--- ---- The laws
+-- ---- The law
 
 -- The test is exactly the facts.
 abbrev pub Sound-exactly : Type 0
 Sound-exactly = (b : Board) → (sound b ≡ true) ↔ Sound b
-
--- Every event keeps a sound record over enough memory.
-abbrev pub Stands-kept : Type 0
-Stands-kept =
-    (s : State) (e : Event)
-    → Stands s
-    → Stands ((step s e) .state)
-
--- Every accepted power-up gives one, whatever the old record was.
-abbrev pub Stands-given : Type 0
-Stands-given =
-    (s : State) (x : Settings)
-    → (step s (powerUp x)) .answer .refusal ≡ 0
-    → Stands ((step s (powerUp x)) .state)

@@ -7,7 +7,7 @@ use borrow.Author.Needs.{needs}
 use lib.ListN.{length, getD, drop}
 use Rattle.rules.specs.Bits.{flag, number}
 use Rattle.rules.proofs.Readings.{flag-le}
-use Rattle.board.proofs.Numbers.{cond-flag, drop-lt, drop-less}
+use Rattle.board.proofs.Numbers.{drop-lt, drop-less}
 use Rattle.board.proofs.registers.number_of.Statement.{statement}
 use Rattle.board.proofs.registers.number_of.Tie as tie
 
@@ -17,19 +17,19 @@ Inv-loop bits n₀ i₀ n i = (length bits ≡ 18) × (i ≤ 18) × (n ≡ numbe
 abbrev μ-loop : tie.MeasureT-loop
 μ-loop bits n₀ i₀ n i = i
 
--- ---- What is known once the bit is picked
+-- ---- What is known once the bit is taken
 
-low : (c : tie.After-pick Inv-loop μ-loop) → c .before .before .loop .n < 2 ^ 18
+low : (c : tie.After-bit-of Inv-loop μ-loop) → c .before .before .loop .n < 2 ^ 18
 low c =
     let v = c .before .before .loop .inv in
     omega (arith, v .2, drop-lt (c .before .before .before .args .t1) (c .before .before .loop .i) 18 (omega (arith, v .0)))
 
-picked : (c : tie.After-pick Inv-loop μ-loop)
-    → c .pick .result ≡ flag (getD (c .before .before .before .args .t1) (c .before .before .loop .i - 1) false)
-picked c = c .pick .ensures ∙ cond-flag _
+taken : (c : tie.After-bit-of Inv-loop μ-loop)
+    → c .bit-of .result ≡ flag (getD (c .before .before .before .args .t1) (c .before .before .loop .i - 1) false)
+taken c = c .bit-of .ensures
 
-picked-le : (c : tie.After-pick Inv-loop μ-loop) → c .pick .result ≤ 1
-picked-le c = rw (picked c) (flag-le _)
+taken-le : (c : tie.After-bit-of Inv-loop μ-loop) → c .bit-of .result ≤ 1
+taken-le c = rw (taken c) (flag-le _)
 
 -- ---- The needs
 
@@ -41,17 +41,17 @@ loop-holds c =
 sub-i : tie.Need-sub-i Inv-loop μ-loop
 sub-i c = search needs
 
-array-read-pick : tie.Need-array-read-pick Inv-loop μ-loop
-array-read-pick c = search needs
+array-read-bit-of : tie.Need-array-read-bit-of Inv-loop μ-loop
+array-read-bit-of c = search needs
 
-pick-requires : tie.Need-pick-requires Inv-loop μ-loop
-pick-requires c κs = search needs
+bit-of-requires : tie.Need-bit-of-requires Inv-loop μ-loop
+bit-of-requires c κs = search needs
 
 mul-n : tie.Need-mul-n Inv-loop μ-loop
 mul-n c = omega (arith, low c)
 
 add-n : tie.Need-add-n Inv-loop μ-loop
-add-n c = omega (arith, low c, picked-le c)
+add-n c = omega (arith, low c, taken-le c)
 
 loop-less : tie.Need-loop-less Inv-loop μ-loop
 loop-less c = search needs
@@ -65,7 +65,7 @@ loop-again c =
     (c .before .before .loop .i)
     (c .before .loop-test .taken)
     (omega (arith, v .0, v .1)) in
-    (v .0, omega (arith, v .1), omega (arith, e, picked c, v .2))
+    (v .0, omega (arith, v .1), omega (arith, e, taken c, v .2))
 
 returns : tie.Need-returns Inv-loop μ-loop
 returns c =
@@ -80,8 +80,8 @@ number-of-spec =
     μ-loop
     loop-holds
     sub-i
-    array-read-pick
-    pick-requires
+    array-read-bit-of
+    bit-of-requires
     mul-n
     add-n
     loop-less

@@ -10,7 +10,9 @@ request-held-requires : tie.Need-request-held-requires
 request-held-requires c κs = search needs
 
 returns : tie.Need-returns
-returns c = cc
+returns c =
+    let p = c .before .before .before .before .before .args .p in
+    λ i. record { core = p .core; size = c .before .size-after .ensures i; request = c .request-held .ensures i; ring = p .ring }
 
 pub board-before-spec : {M : Type 1} → statement M
 board-before-spec = tie.close (tie.spec size-after-requires request-held-requires returns)

@@ -5,9 +5,12 @@ use Rattle.rules.specs.Record.{State}
 use Rattle.rules.specs.Size.{sizeAfter}
 use Rattle.rules.specs.Interrupt.{requestHeld, requestAfter}
 use Rattle.rules.specs.Step.{boardBefore, withRequest}
+use Rattle.rules.proofs.Sizes.{size-depth}
 use Rattle.rules.proofs.Refusals.{refusal-stands}
+use Rattle.record.proofs.Told.{depth-told}
 use Rattle.board.specs.Types.{Board}
-use Rattle.board.proofs.Standing.{stands-sized}
+use Rattle.board.proofs.Standing.{stands-sized, stands-ready, stands-sober}
+use Rattle.board.proofs.Planning.{within-sober, planned-does}
 use Rattle.board.proofs.Whole.{both-sized, done-stepped}
 use Rattle.board.proofs.steps.done.Statement.{statement}
 use Rattle.board.proofs.steps.done.Tie as tie
@@ -15,18 +18,30 @@ use Rattle.board.proofs.steps.done.Tie as tie
 register-requires : tie.Need-register-requires
 register-requires c κs = λ o. stands-sized _ (refusal-stands _ _ o (c .before .pre))
 
-played-requires : tie.Need-played-requires
-played-requires c κs = λ o. refusal-stands _ _ o (c .before .before .before .pre)
+plan-of-requires : tie.Need-plan-of-requires
+plan-of-requires c κs = search needs
+
+depth-requires : tie.Need-depth-requires
+depth-requires c κs = search needs
+
+carry-requires : tie.Need-carry-requires
+carry-requires c κs =
+    λ k. let a = c .before .before .before .before .before .before .before .before .args in
+    let w = c .before .before .plan-of .ensures in
+    let st = refusal-stands (record { board = a .b; memory = a .memory .now }) (a .e) (w .ordinary k) (c .before .before .before .before .before .before .before .before .pre) in
+    rw (depth-told (a .b) _ (c .before .depth .ensures) (st .sound .fitted))
+    (stands-ready _ st, within-sober (w .within k) (stands-sober _ st), st .sound .fitted, size-depth (a .b .size))
 
 board-before-requires : tie.Need-board-before-requires
 board-before-requires c κs = search needs
 
 request-after-requires : tie.Need-request-after-requires
 request-after-requires c κs =
-    let a = c .before .before .before .before .before .before .before .args in
+    let a = c .before .before .before .before .before .before .before .before .before .before .before .before .args in
     let s : State = record { board = a .b; memory = a .memory .now } in
     let e = c .board-before .ensures in
-    both-sized s (a .e) _ (c .before .before .before .before .before .before .before .pre) (ap (λ (x : Board). x .size) e) (ap (λ (x : Board). x .ring) e ∙ c .before .before .before .played .ensures .ring)
+    let p = planned-does s (a .e) _ _ _ _ (c .before .before .before .before .before .before .before .before .before .before .before .before .pre) (c .before .before .before .before .before .before .plan-of .ensures) (c .before .before .before .before .before .depth .ensures) (c .before .before .before .carry .ensures) in
+    both-sized s (a .e) _ (c .before .before .before .before .before .before .before .before .before .before .before .before .pre) (ap (λ (x : Board). x .size) e) (ap (λ (x : Board). x .ring) e ∙ p .ring)
 
 same-length : tie.Need-same-length
 same-length c = search needs
@@ -34,15 +49,15 @@ same-length c = search needs
 returns : tie.Need-returns
 unfolding boardBefore
 returns c =
-    let a = c .before .before .before .before .before .before .before .before .args in
+    let a = c .before .before .before .before .before .before .before .before .before .before .before .before .before .args in
     let s : State = record { board = a .b; memory = a .memory .now } in
-    let p = c .before .before .before .before .played .ensures in
+    let p = planned-does s (a .e) _ _ _ _ (c .before .before .before .before .before .before .before .before .before .before .before .before .before .pre) (c .before .before .before .before .before .before .before .plan-of .ensures) (c .before .before .before .before .before .before .depth .ensures) (c .before .before .before .before .carry .ensures) in
     let b : c .before .board-before .result ≡ boardBefore s (a .e) =
     c .before .board-before .ensures
     ∙ (λ i. record { core = p .core i; size = sizeAfter (a .b .size) (a .e); request = requestHeld (a .b .request) (a .e); ring = p .ring i }) in
     let q = c .request-after .ensures ∙ ap (requestAfter (a .e) (a .b)) b in
-    done-stepped s (a .e) _ _ (c .before .before .before .before .before .before .before .before .pre)
-    (λ i. record { refusal = 0; register = c .before .before .before .before .before .before .register .ensures i; moved = p .moved i; fate = p .fate i })
+    done-stepped s (a .e) _ _ (c .before .before .before .before .before .before .before .before .before .before .before .before .before .pre)
+    (λ i. record { refusal = 0; register = c .before .before .before .before .before .before .before .before .before .before .before .register .ensures i; moved = p .moved i; fate = p .fate i })
     (λ i. withRequest (q i) (b i))
     (p .memory)
 
@@ -51,7 +66,9 @@ done-spec =
     tie.close
     (tie.spec
     register-requires
-    played-requires
+    plan-of-requires
+    depth-requires
+    carry-requires
     board-before-requires
     request-after-requires
     same-length

@@ -3,9 +3,9 @@ use Prim.Native.Nat.{_+_, _≤_}
 use native.Mathlib.Omega.{arith}
 use lib.ListN.{length}
 use borrow.Author.Needs.{needs}
-use Rattle.listing.specs.Text.{fileLine}
+use Rattle.text.specs.Text.{fileLine}
 use Rattle.listing.proofs.Puts.{then, put-length, room}
-use Rattle.listing.proofs.Numbers.{decimal-long, field-long}
+use Rattle.text.proofs.Numbers.{decimal-long, field-long}
 use Rattle.listing.proofs.lines.put_file_line.Statement.{statement}
 use Rattle.listing.proofs.lines.put_file_line.Tie as tie
 

@@ -9,10 +9,10 @@ use lib.Seq.{drop-cons}
 use mir.Syntax.{w16}
 use borrow.Kind.Array.{eInt, good-length}
 use borrow.Author.Needs.{needs}
-use Rattle.listing.specs.Text.{levelsIn, levelsLine}
+use Rattle.text.specs.Text.{levelsIn, levelsLine}
 use Rattle.listing.specs.Pieces.{Put}
 use Rattle.listing.proofs.Puts.{then, put-length, room}
-use Rattle.listing.proofs.Numbers.{hex-long}
+use Rattle.text.proofs.Numbers.{hex-long}
 use Rattle.listing.proofs.lines.put_levels.Statement.{statement}
 use Rattle.listing.proofs.lines.put_levels.Tie as tie
 

@@ -4,9 +4,9 @@ use mathlib.Core.List.{_∷_, _++_}
 use native.Mathlib.Omega.{arith}
 use lib.ListN.{length}
 use borrow.Author.Needs.{needs}
-use Rattle.listing.specs.Text.{space, decimal, hex, line}
+use Rattle.text.specs.Text.{space, decimal, hex, line}
 use Rattle.listing.proofs.Puts.{then, renamed, put-length, room}
-use Rattle.listing.proofs.Numbers.{decimal-long, field-long, hex-long}
+use Rattle.text.proofs.Numbers.{decimal-long, field-long, hex-long}
 use Rattle.listing.proofs.LineParts.{rest-joined}
 use Rattle.listing.proofs.lines.put_line.Statement.{statement}
 use Rattle.listing.proofs.lines.put_line.Tie as tie

@@ -4,7 +4,7 @@ use native.Mathlib.Omega.{arith}
 use lib.ListN.{length}
 use borrow.Author.Needs.{needs}
 use Rattle.listing.proofs.Puts.{then, put-length, room}
-use Rattle.listing.proofs.Numbers.{field-long}
+use Rattle.text.proofs.Numbers.{field-long}
 use Rattle.listing.proofs.lines.put_rest.Statement.{statement}
 use Rattle.listing.proofs.lines.put_rest.Tie as tie
 

@@ -1,7 +1,7 @@
 -- `listing::pieces::put_decimal` meets its contract: a number of one digit is that digit.
 use borrow.Author.Needs.{needs}
 use Rattle.listing.proofs.Puts.{put-length}
-use Rattle.listing.proofs.Numbers.{decimal-one}
+use Rattle.text.proofs.Numbers.{decimal-one}
 use Rattle.listing.proofs.pieces.put_decimal.Statement.{statement}
 use Rattle.listing.proofs.pieces.put_decimal.Tie as tie
 

@@ -1,6 +1,6 @@
 -- `listing::pieces::put_hex` meets its contract: its four digits are one piece.
 use borrow.Author.Needs.{needs}
-use Rattle.listing.specs.Text.{hex}
+use Rattle.text.specs.Text.{hex}
 use Rattle.listing.proofs.Puts.{then, put-length}
 use Rattle.listing.proofs.pieces.put_hex.Statement.{statement}
 use Rattle.listing.proofs.pieces.put_hex.Tie as tie

@@ -4,9 +4,9 @@ use mathlib.Core.Path.{_≡_}
 use native.Mathlib.Omega.{arith}
 use lib.ListN.{length}
 use borrow.Author.Needs.{needs}
-use Rattle.listing.specs.Text.{decimalIn}
+use Rattle.text.specs.Text.{decimalIn}
 use Rattle.listing.proofs.Puts.{then, put-length, room}
-use Rattle.listing.proofs.Numbers.{decimal-long, decimal-four, decimal-room}
+use Rattle.text.proofs.Numbers.{decimal-long, decimal-four, decimal-room}
 use Rattle.listing.proofs.pieces.put_long.Statement.{statement}
 use Rattle.listing.proofs.pieces.put_long.Tie as tie
 

@@ -1,9 +1,9 @@
 -- `listing::pieces::put_register` meets its contract: 0 has eight digits 0, and any other number is written by fours.
 use native.Mathlib.Omega.{arith}
 use borrow.Author.Needs.{needs}
-use Rattle.listing.specs.Text.{hex}
+use Rattle.text.specs.Text.{hex}
 use Rattle.listing.proofs.Puts.{then, put-length, room}
-use Rattle.listing.proofs.Numbers.{hex-long, hex-four}
+use Rattle.text.proofs.Numbers.{hex-long, hex-four}
 use Rattle.listing.proofs.pieces.put_register.Statement.{statement}
 use Rattle.listing.proofs.pieces.put_register.Tie as tie
 

@@ -4,7 +4,7 @@ use native.Mathlib.Nat.{mod-eq-of-lt}
 use native.Mathlib.Omega.{arith}
 use borrow.Author.Needs.{needs}
 use Rattle.listing.proofs.Puts.{then, put-length}
-use Rattle.listing.proofs.Numbers.{decimal-one, decimal-next}
+use Rattle.text.proofs.Numbers.{decimal-one, decimal-next}
 use Rattle.listing.proofs.pieces.put_small.Statement.{statement}
 use Rattle.listing.proofs.pieces.put_small.Tie as tie
 

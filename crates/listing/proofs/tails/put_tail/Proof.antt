@@ -1,7 +1,7 @@
 use mathlib.Core.Path.{subst}
 use Rattle.listing.specs.Listing.{tail, InReach}
 use Rattle.listing.proofs.Puts.{then, put-length, room}
-use Rattle.listing.proofs.Lengths.{file-line-length}
+use Rattle.text.proofs.Lengths.{file-line-length}
 use borrow.Author.Needs.{needs}
 use Rattle.listing.proofs.tails.put_tail.Statement.{statement}
 use Rattle.listing.proofs.tails.put_tail.Tie as tie

@@ -1,0 +1,33 @@
+use borrow.Author.Tests.{ne-eqb}
+use Rattle.session.specs.File.{signalOf}
+use Rattle.bridge.proofs.events.signal_of.Statement.{statement}
+use Rattle.bridge.proofs.events.signal_of.Tie as tie
+
+returns : tie.Need-returns
+unfolding signalOf
+returns c = rw (c .match .keys1)
+
+returns-2 : tie.Need-returns-2
+unfolding signalOf
+returns-2 c = rw (c .match .keys2)
+
+returns-3 : tie.Need-returns-3
+unfolding signalOf
+returns-3 c = rw (c .match .keys3)
+
+returns-4 : tie.Need-returns-4
+unfolding signalOf
+returns-4 c = rw (c .match .keys4)
+
+returns-5 : tie.Need-returns-5
+unfolding signalOf
+returns-5 c = rw (c .match .keys5)
+
+returns-6 : tie.Need-returns-6
+unfolding signalOf
+returns-6 c =
+    let r = c .match .rest in
+    rw (ne-eqb _ _ (r .0 .0 .0 .0 .1), ne-eqb _ _ (r .0 .0 .0 .1), ne-eqb _ _ (r .0 .0 .1), ne-eqb _ _ (r .0 .1), ne-eqb _ _ (r .1))
+
+pub signal-of-spec : {M : Type 1} → statement M
+signal-of-spec = tie.close (tie.spec returns returns-2 returns-3 returns-4 returns-5 returns-6)

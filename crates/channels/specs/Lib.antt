@@ -1,0 +1,3 @@
+pub mod Serving
+pub mod Promises
+pub mod Unique

@@ -1,0 +1,55 @@
+// Which channels an accepted clock serves. Every call takes every input. What each promises is in specs/Promises.antt.
+ghost use Rattle.channels.specs.Promises.{LowestTold, Serves};
+use crate::sizes::to_move;
+use crate::states::closed;
+use crate::targets::cursor_after;
+use crate::targets::served;
+use rules::Core;
+
+mod sizes;
+mod states;
+mod targets;
+
+// What an accepted clock is to do: the channels that it gives a value each, as a mask; how many these are; the cursor after it; and
+// whether the values are stored again.
+pub struct Serving {
+    pub mask: u32,
+    pub moved: u32,
+    pub cursor: u32,
+    pub again: bool,
+}
+
+// The lowest active channel from k up, 20 where there is none.
+pub fn lowest_from(mask: u32, k: u32) -> u32
+    ensures { λ r. ⌜ LowestTold mask k r ⌝ }
+{
+    if 20 < k {
+        return 20;
+    }
+    let at = k + u32::trailing_zeros(mask >> k);
+    if at < 20 {
+        return at;
+    }
+    20
+}
+
+// Which channels an accepted clock serves, count values being stored. Where the core's mask or cursor is out of range it serves none.
+pub fn serve(c: Core, count: u32) -> Serving
+    ensures { λ r. ⌜ Serves c count r ⌝ }
+{
+    let n = to_move(c, count);
+    if n == 0 {
+        return Serving {
+            mask: 0,
+            moved: 0,
+            cursor: c.outputs.cursor,
+            again: closed(c),
+        };
+    }
+    Serving {
+        mask: served(c),
+        moved: n,
+        cursor: cursor_after(c),
+        again: closed(c),
+    }
+}

@@ -1,0 +1,20 @@
+// How many values a clock moves.
+ghost use mathlib.Core.Path.{_≡_};
+ghost use Rattle.channels.specs.Serving.{toMove};
+use crate::states::idle;
+use crate::targets::group_size;
+use rules::Core;
+
+// 01: "sequential mode moves one value, if any"; "only if that many are stored". 0 where the mask or the cursor is out of range.
+pub(crate) fn to_move(c: Core, count: u32) -> u32
+    ensures { λ r. ⌜ r ≡ toMove c count ⌝ }
+{
+    if (c.outputs.mask < 1048576) & (c.outputs.cursor <= 20) {
+        let size = group_size(c);
+        if idle(c) | (count < size) {
+            return 0;
+        }
+        return size;
+    }
+    0
+}

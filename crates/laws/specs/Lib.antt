@@ -1,0 +1,8 @@
+-- What follows from the rules of `rules` over clocks, loads, places in memory and whole runs. Proofs are in proofs/.
+pub mod Types
+pub mod Lasting
+pub mod Moved
+pub mod Frames
+pub mod Loads
+pub mod Places
+pub mod NeverStopped

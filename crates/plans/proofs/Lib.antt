@@ -1,0 +1,3 @@
+-- What the functions' proofs cite; each file opens with what it shows.
+pub mod Acts
+pub mod Unique

@@ -1,0 +1,2 @@
+-- What the promise comes to.
+pub mod Unique

@@ -1,0 +1,3 @@
+-- The laws of specs/Laws, and how long numbers and lines are.
+pub mod Numbers
+pub mod Lengths
