@@ -2,11 +2,11 @@
 --   Sober c         the core's mask and cursor are those of at most twenty channels
 --   servingOf c n   what it is to do, n values being stored
 use Prim.Native.Nat.{ℕ, _≤_, _<_, _^_}
-use mathlib.Core.Bool.{Bool, cond, _&&_, _||_}
+use mathlib.Core.Bool.{Bool, cond, _&&_}
 use lib.Dec.{eqb, leb, ltb}
-use lib.ListN.{length}
+use lib.ListN.{replicate}
 use Rattle.rules.specs.declared.Core.{Core}
-use Rattle.rules.specs.Clocks.{closed, idle, nextChannel, targets, cursorAfter}
+use Rattle.rules.specs.Clocks.{closed, nextChannel, moving, cursorAfter}
 use Rattle.channels.specs.declared.Serving.{Serving}
 
 pub record Sober (c : Core) : Type 0 where
@@ -17,9 +17,9 @@ pub record Sober (c : Core) : Type 0 where
 unfoldable pub sober : Core → Bool
 sober c = ltb (c .outputs .mask) (2 ^ 20) && leb (c .outputs .cursor) 20
 
--- how many of n stored values an accepted clock moves: `moving` of the rules, which asks the list of them for its length alone
+-- how many of n stored values an accepted clock moves: `moving` of the rules asks their list for its length alone, so any n will do
 unfoldable pub toMove : Core → ℕ → ℕ
-toMove c n = cond (sober c) (cond (idle c || ltb n (length (targets c))) 0 (length (targets c))) 0
+toMove c n = cond (sober c) (moving c (replicate n 0)) 0
 
 -- the channels that it serves, as a mask
 unfoldable pub servedBy : Core → ℕ

@@ -19,21 +19,18 @@ use Rattle.plans.specs.Parts.{carried, Within, coreOf, bufferAct, clocks
 module _ (c : Core) (buf : List ℕ) (full : Bool) where
   -- ---- Clocks
 
+  clocked-if : (t : Bool) → cond t (clock c buf) (only c) ≡ carried (clocksIf t) c buf full
+  unfolding carried clocksIf
+  clocked-if true = refl
+  clocked-if false = refl
+
   pub plays-tick : onTick c buf ≡ carried (clocksIf (tickAccepted c)) c buf full
-  unfolding onTick carried clocksIf
-  plays-tick = go (tickAccepted c)
-    where
-      go : (t : Bool) → cond t (clock c buf) (only c) ≡ carried (clocksIf t) c buf full
-      go true = unfold carried clocksIf in refl
-      go false = unfold carried clocksIf in refl
+  unfolding onTick
+  plays-tick = clocked-if (tickAccepted c)
 
   pub plays-outside : onOutside c buf ≡ carried (clocksIf (clockAccepted c)) c buf full
-  unfolding onOutside carried clocksIf
-  plays-outside = go (clockAccepted c)
-    where
-      go : (t : Bool) → cond t (clock c buf) (only c) ≡ carried (clocksIf t) c buf full
-      go true = unfold carried clocksIf in refl
-      go false = unfold carried clocksIf in refl
+  unfolding onOutside
+  plays-outside = clocked-if (clockAccepted c)
 
   -- ---- A write to 0Ch
 

@@ -7,6 +7,7 @@ use lib.ListN.{length}
 use Rattle.rules.specs.Clocks.{idle, targets}
 use Rattle.rules.proofs.Choice.{cond-true, cond-false, and-both}
 use Rattle.channels.specs.Serving.{sober, toMove}
+use Rattle.channels.proofs.Ranges.{moving-count}
 use Rattle.channels.proofs.sizes.to_move.Statement.{statement}
 use Rattle.channels.proofs.sizes.to_move.Tie as tie
 
@@ -21,14 +22,14 @@ unfolding toMove sober
 returns c =
     let a = c .before .before .before .before .before .before .args in
     let h : idle (a .c) || ltb (a .count) (length (targets (a .c))) ≡ true = sym (λ i. c .before .idle .ensures i || ltb (a .count) (c .before .before .group-size .ensures i)) ∙ c .if2 .taken in
-    sym (cond-true _ _ _ (c .before .before .before .if1 .taken) ∙ cond-true _ _ _ h)
+    sym (cond-true _ _ _ (c .before .before .before .if1 .taken) ∙ moving-count (a .c) (a .count) ∙ cond-true _ _ _ h)
 
 returns-2 : tie.Need-returns-2
 unfolding toMove sober
 returns-2 c =
     let a = c .before .before .before .before .before .before .args in
     let h : idle (a .c) || ltb (a .count) (length (targets (a .c))) ≡ false = sym (λ i. c .before .idle .ensures i || ltb (a .count) (c .before .before .group-size .ensures i)) ∙ c .if2 .left in
-    c .before .before .group-size .ensures ∙ sym (cond-true _ _ _ (c .before .before .before .if1 .taken) ∙ cond-false _ _ _ h)
+    c .before .before .group-size .ensures ∙ sym (cond-true _ _ _ (c .before .before .before .if1 .taken) ∙ moving-count (a .c) (a .count) ∙ cond-false _ _ _ h)
 
 returns-3 : tie.Need-returns-3
 unfolding toMove sober
