@@ -31,27 +31,6 @@ head-high d (suc n) k mask h =
 pub head-none : (k mask : ℕ) → k ≤ 20 → 20 ≤ headOr 20 (activeFrom k mask) → activeFrom k mask ≡ []
 head-none k mask h l = head-high 20 (20 - k) k mask (omega arith)
 
--- there are no channels above 20
-pub head-past : (k mask : ℕ) → 20 ≤ k → headOr 20 (activeFrom k mask) ≡ 20
-unfolding headOr active
-head-past k mask h = let e : 20 - k ≡ 0 = omega arith in ap (λ (n : ℕ). headOr 20 (active n k mask)) e
-
--- a first that is there, and those after it
-next-of : (t n k mask : ℕ) → n + k ≡ t → headOr t (active n k mask) < t
-    → active n k mask ≡ headOr t (active n k mask) ∷ active (t - (headOr t (active n k mask) + 1)) (headOr t (active n k mask) + 1) mask
-unfolding headOr active
-next-of t zero k mask e h = absurd (omega arith)
-next-of t (suc n) k mask e h =
-    let later : List ℕ → List ℕ = λ ks. headOr t ks ∷ active (t - (headOr t ks + 1)) (headOr t ks + 1) mask in
-    let n-is : n ≡ t - (k + 1) = omega arith in
-    let k-is : suc k ≡ k + 1 = omega arith in
-    either (λ (ks : List ℕ). headOr t ks < t → ks ≡ later ks) (bit k mask)
-    (λ _ i. k ∷ active (n-is i) (k-is i) mask) (next-of t n (suc k) mask (omega arith)) h
-
-pub head-next : (k mask : ℕ) → k ≤ 20 → headOr 20 (activeFrom k mask) < 20
-    → activeFrom k mask ≡ headOr 20 (activeFrom k mask) ∷ activeFrom (headOr 20 (activeFrom k mask) + 1) mask
-head-next k mask h = next-of 20 (20 - k) k mask (omega arith)
-
 -- ---- The first by the zeros below it
 
 -- the first of the n channels from k up that are active is `at`, if that is one of the n; else there is none
@@ -59,7 +38,7 @@ pub record First (d n k mask at : ℕ) : Type 0 where
   pub there : at < n + k → headOr d (active n k mask) ≡ at
   pub none : n + k ≤ at → headOr d (active n k mask) ≡ d
 
-halved : (mask k : ℕ) → mask / 2 ^ suc k ≡ mask / 2 ^ k / 2
+pub halved : (mask k : ℕ) → mask / 2 ^ suc k ≡ mask / 2 ^ k / 2
 halved mask k = ap (λ (x : ℕ). mask / x) (pow-suc 2 k) ∙ sym (div-div-eq-div-mul mask (2 ^ k) 2)
 
 zeros-first : (d n m k mask : ℕ) → n ≤ m → First d n k mask (k + trailingZeros m (mask / 2 ^ k))

@@ -1,5 +1,5 @@
-// Which channels an accepted clock serves. Every call takes every input. What each promises is in specs/Promises.antt.
-ghost use Rattle.channels.specs.Promises.{LowestTold, Serves};
+// Which channels an accepted clock serves. Every call takes every input. What it promises is in specs/Promises.antt.
+ghost use Rattle.channels.specs.Promises.{Serves};
 use crate::sizes::to_move;
 use crate::states::closed;
 use crate::targets::cursor_after;
@@ -17,20 +17,6 @@ pub struct Serving {
     pub moved: u32,
     pub cursor: u32,
     pub again: bool,
-}
-
-// The lowest active channel from k up, 20 where there is none.
-pub fn lowest_from(mask: u32, k: u32) -> u32
-    ensures { λ r. ⌜ LowestTold mask k r ⌝ }
-{
-    if 20 < k {
-        return 20;
-    }
-    let at = k + u32::trailing_zeros(mask >> k);
-    if at < 20 {
-        return at;
-    }
-    20
 }
 
 // Which channels an accepted clock serves, count values being stored. Where the core's mask or cursor is out of range it serves none.

@@ -2,10 +2,22 @@
 ghost use Prim.Native.Nat.{_≤_, _<_, _^_};
 ghost use mathlib.Core.Path.{_≡_};
 ghost use lib.ListN.{length};
+ghost use Rattle.rules.specs.Bits.{activeFrom, headOr};
 ghost use Rattle.rules.specs.Clocks.{nextChannel, targets, cursorAfter};
 ghost use Rattle.channels.specs.Serving.{servedBy};
-use crate::lowest_from;
 use rules::Core;
+
+// The lowest active channel from k up, 20 where there is none.
+pub(crate) fn lowest_from(mask: u32, k: u32) -> u32
+    requires { ⌜ k ≤ 20 ⌝ }
+    ensures { λ r. ⌜ r ≡ headOr 20 (activeFrom k mask) ⌝ }
+{
+    let at = k + u32::trailing_zeros(mask >> k);
+    if at < 20 {
+        return at;
+    }
+    20
+}
 
 // 01: "to the lowest active channel at or above the cursor, else to the lowest active one"
 pub(crate) fn next_channel(c: Core) -> u32

@@ -18,6 +18,7 @@ use record::depth;
 use record::unpowered;
 use rules::Board;
 use rules::Core;
+use rules::Outputs;
 use rules::Ring;
 use session::Item;
 
@@ -37,11 +38,30 @@ pub(crate) fn whole(rest: Board, core: Core, ring: Ring) -> Board
 pub(crate) fn with_levels(core: Core, levels: [u16; 20]) -> Core
     ensures { λ r. ⌜ r ≡ lent core levels ⌝ }
 {
-    let mut outputs = core.outputs;
-    outputs.levels = levels;
-    let mut k = core;
-    k.outputs = outputs;
-    k
+    let options = core.options;
+    let control = core.control;
+    let mode = core.mode;
+    let calibration = core.calibration;
+    let clock = core.clock;
+    let burst = core.burst;
+    let load = core.load;
+    let lost = core.lost;
+    Core {
+        powered: core.powered,
+        options: options,
+        control: control,
+        mode: mode,
+        calibration: calibration,
+        clock: clock,
+        burst: burst,
+        load: load,
+        lost: lost,
+        outputs: Outputs {
+            mask: core.outputs.mask,
+            cursor: core.outputs.cursor,
+            levels: levels,
+        },
+    }
 }
 
 // The loop over the session. The levels, the core and the ring stand in locals of their own, so that an event that is done at once

@@ -7,7 +7,7 @@ use native.Mathlib.Omega.{arith}
 use borrow.Author.Tests.{leb-true, leb-false, ltb-true, le-leb, lt-ltb}
 use lib.Dec.{leb}
 use lib.ListN.{length}
-use Rattle.rules.specs.Bits.{active, activeFrom, headOr}
+use Rattle.rules.specs.Bits.{active, activeFrom}
 use Rattle.rules.specs.declared.Core.{Core}
 use Rattle.rules.specs.declared.Ring.{Ring}
 use Rattle.rules.specs.Clocks.{closed}
@@ -38,17 +38,10 @@ pub no-channels : activeFrom 0 0 ≡ []
 unfolding active
 no-channels = refl
 
-head-of-none : headOr 20 [] ≡ 20
-unfolding headOr
-head-of-none = refl
-
 -- a channel is served only where the ring lies in the memory
-pub mask-ready : (ring : Ring) (d : ℕ) (m : List ℕ) (mask ks k : ℕ) (t : Bool) → t ≡ fits ring d (length m) → ks ≡ cond t mask 0
-    → k ≡ headOr 20 (activeFrom 0 ks) → k < 20 → Ready d ring m
-mask-ready ring d m mask ks k true e f g h = fits-ready ring d m (sym e)
-mask-ready ring d m mask ks k false e f g h =
-    let none = g ∙ ap (λ (n : ℕ). headOr 20 (activeFrom 0 n)) f ∙ ap (headOr 20) no-channels ∙ head-of-none in
-    absurd (omega (arith, none, h))
+pub mask-ready : (ring : Ring) (d : ℕ) (m : List ℕ) (mask ks : ℕ) (t : Bool) → t ≡ fits ring d (length m) → ks ≡ cond t mask 0 → 0 < ks → Ready d ring m
+mask-ready ring d m mask ks true e f h = fits-ready ring d m (sym e)
+mask-ready ring d m mask ks false e f h = absurd (omega (arith, f, h))
 
 -- ---- A load
 

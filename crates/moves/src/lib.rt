@@ -9,7 +9,6 @@ use crate::ring::pass;
 use crate::ring::wrapped;
 use crate::sizes::fits;
 use crate::sizes::mask_if;
-use channels::lowest_from;
 use rules::Burst;
 use rules::Core;
 use rules::Load;
@@ -44,7 +43,8 @@ pub struct Stored {
 
 // A value from the front of the ring to each channel of the mask, ascending, as far as there are any. The levels are lent and change in
 // place: handed on with each value they would be copied for each. Where the ring does not lie in the first d values of the memory,
-// nothing moves.
+// nothing moves. `waiting` is the mask of the channels still to be served; `x & (x - 1)` is x without its lowest one. Bit 16 of `marks`
+// says whether a value carried EOF.
 pub fn deal(
     mask: u32,
     x: Frame,
@@ -57,18 +57,20 @@ pub fn deal(
     ensures { λ r. ⌜ Deals mask x binary again d (now (levels .entry)) (now (memory .entry)) r (now (levels .exit)) (now (memory .exit)) ⌝ }
 {
     let mut ring = x.ring;
-    let mut ended = false;
-    let ks = mask_if(fits(ring, d, memory.len()), mask);
-    let mut k = lowest_from(ks, 0);
+    let mut marks: u32 = 0;
+    let mut waiting = mask_if(fits(ring, d, memory.len()), mask);
+    let mut k = u32::trailing_zeros(waiting);
     while (k < 20) & (0 < ring.count) {
         let passed = pass(ring, again, d, memory);
         let at = k as usize;
         levels[at] = coded(binary, passed.value);
-        ended = ended | (passed.value / 65536 % 2 == 1);
-        let rest = passed.ring;
-        ring = rest;
-        k = lowest_from(ks, k + 1);
+        marks = marks | passed.value;
+        let after = passed.ring;
+        ring = after;
+        waiting = waiting & (waiting - 1);
+        k = u32::trailing_zeros(waiting);
     }
+    let ended = marks / 65536 % 2 == 1;
     let burst = x.burst;
     let load = x.load;
     Frame {

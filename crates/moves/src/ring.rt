@@ -1,5 +1,5 @@
 // Where the stored values stand in the sample memory, and how one leaves.
-ghost use Prim.Native.Nat.{_+_, _%_, _<_};
+ghost use Prim.Native.Nat.{_+_, _%_, _<_, _≤_};
 ghost use mathlib.Core.Path.{_≡_};
 ghost use lib.ListN.{getD};
 ghost use Rattle.rules.specs.Record.{valueSpan};
@@ -19,6 +19,17 @@ pub(crate) fn wrapped(x: u32, d: u32) -> u32
     x - d
 }
 
+// The place after one: x mod depth for an x of at most one lap, in fewer steps than `wrapped`, since the next value waits for it.
+pub(crate) fn stepped(x: u32, d: u32) -> u32
+    requires { ⌜ (0 < x) × (x ≤ d) ⌝ }
+    ensures { λ r. ⌜ (r ≡ x % d) × (r < d) ⌝ }
+{
+    if x == d {
+        return 0;
+    }
+    x
+}
+
 // The value that left the front of the ring, and the ring after it.
 pub(crate) struct Passed {
     pub value: u32,
@@ -32,7 +43,7 @@ pub(crate) fn pass(ring: Ring, again: bool, d: u32, memory: &mut [u32]) -> Passe
 {
     let first = ring.first as usize;
     let v = memory[first] % 131072;
-    let next = wrapped(ring.first + 1, d);
+    let next = stepped(ring.first + 1, d);
     let rest = ring.count - 1;
     if again {
         let at = wrapped(next + rest, d) as usize;

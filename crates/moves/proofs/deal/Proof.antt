@@ -1,16 +1,17 @@
--- The invariant is `Inv`: to deal the channels that are left from here is to deal all from the start.
-use Prim.Native.Nat.{ℕ, _-_, _<_}
+-- The invariant is `Inv`: to deal to the channels that wait from here is to deal to all from the start.
+use Prim.Native.Nat.{ℕ, _<_}
 use mathlib.Core.Path.{_≡_, ap, _∙_}
 use mathlib.Core.Bool.{Bool, true, false, cond, _&&_}
 use native.Mathlib.Omega.{arith}
 use borrow.Author.Needs.{needs}
 use borrow.Author.Tests.{ltb-true}
 use lib.Dec.{ltb}
-use Rattle.rules.specs.Bits.{activeFrom}
+use Rattle.rules.specs.Bits.{bit, activeFrom}
 use Rattle.rules.proofs.Choice.{and-both}
+use Rattle.channels.proofs.Lowest.{without-less}
 use Rattle.moves.specs.Deal.{dealing, dealAll}
 use Rattle.moves.proofs.Entries.{mask-ready}
-use Rattle.moves.proofs.Loop.{one-dealt, Inv, inv-start, inv-turn, inv-end}
+use Rattle.moves.proofs.Loop.{one-dealt, Inv, inv-start, inv-some, inv-turn, inv-end}
 use Rattle.moves.proofs.deal.Statement.{statement}
 use Rattle.moves.proofs.deal.Tie as tie
 
@@ -22,11 +23,11 @@ some : (k n : ℕ) → ltb k 20 && ltb 0 n ≡ true → 0 < n
 some k n h = ltb-true 0 n ((and-both (ltb k 20) (ltb 0 n) h) .1)
 
 abbrev Inv-loop : tie.InvT-loop
-Inv-loop mask x binary again d levels₀ memory₀ ring₀ ended₀ ks k₀ levels memory ring ended k =
-    Inv ks binary again d (dealing levels₀ ring₀ ended₀ memory₀) (dealing levels ring ended memory) k
+Inv-loop mask x binary again d levels₀ memory₀ ring₀ marks₀ waiting₀ k₀ levels memory ring marks waiting k =
+    Inv waiting₀ binary again d (dealing levels₀ ring₀ (bit 16 marks₀) memory₀) (dealing levels ring (bit 16 marks) memory) waiting k
 
 abbrev μ-loop : tie.MeasureT-loop
-μ-loop mask x binary again d levels₀ memory₀ ring₀ ended₀ ks k₀ levels memory ring ended k = 20 - k
+μ-loop mask x binary again d levels₀ memory₀ ring₀ marks₀ waiting₀ k₀ levels memory ring marks waiting k = waiting
 
 fits-requires : tie.Need-fits-requires Inv-loop μ-loop
 fits-requires c κs = search needs
@@ -34,14 +35,10 @@ fits-requires c κs = search needs
 mask-if-requires : tie.Need-mask-if-requires Inv-loop μ-loop
 mask-if-requires c κs = search needs
 
-lowest-from-requires : tie.Need-lowest-from-requires Inv-loop μ-loop
-lowest-from-requires c κs = search needs
-
 loop-holds : tie.Need-loop-holds Inv-loop μ-loop
 loop-holds c =
-    let a = c .before .before .before .before .before .args in
-    let first = c .lowest-from .ensures .told in
-    inv-start (mask-ready (a .x .ring) (a .d) (a .memory .now) (a .mask) _ _ _ (c .before .before .fits2 .ensures) (c .before .mask-if .ensures) first) first
+    let a = c .before .before .before .before .args in
+    inv-start (mask-ready (a .x .ring) (a .d) (a .memory .now) (a .mask) _ _ (c .before .fits2 .ensures) (c .mask-if .ensures))
 
 pass-requires : tie.Need-pass-requires Inv-loop μ-loop
 pass-requires c κs =
@@ -60,24 +57,19 @@ mul-levels c = omega (arith, low (c .before .before .before .before .before .bef
 element-write-levels : tie.Need-element-write-levels Inv-loop μ-loop
 element-write-levels c = omega (arith, low (c .before .before .before .before .before .before .before .loop .k) (c .before .before .before .before .before .before .before .loop .ring .count) (c .before .before .before .before .before .if1 .taken))
 
-add-lowest-from : tie.Need-add-lowest-from Inv-loop μ-loop
-add-lowest-from c = let h = low (c .before .before .before .before .before .before .before .before .before .loop .k) (c .before .before .before .before .before .before .before .before .before .loop .ring .count) (c .before .before .before .before .before .before .before .if1 .taken) in search (needs, h)
-
-lowest-from-requires-2 : tie.Need-lowest-from-requires-2 Inv-loop μ-loop
-lowest-from-requires-2 c κs = omega (arith, low (c .before .before .before .before .before .before .before .before .before .loop .k) (c .before .before .before .before .before .before .before .before .before .loop .ring .count) (c .before .before .before .before .before .before .before .if1 .taken))
+sub-waiting : tie.Need-sub-waiting Inv-loop μ-loop
+sub-waiting c = inv-some (c .before .before .before .before .before .before .before .before .before .loop .inv) (low (c .before .before .before .before .before .before .before .before .before .loop .k) (c .before .before .before .before .before .before .before .before .before .loop .ring .count) (c .before .before .before .before .before .before .before .if1 .taken))
 
 loop-less : tie.Need-loop-less Inv-loop μ-loop
-loop-less c =
-    let h = low (c .before .before .before .before .before .before .before .before .before .before .loop .k) (c .before .before .before .before .before .before .before .before .before .before .loop .ring .count) (c .before .before .before .before .before .before .before .before .if1 .taken) in
-    omega (arith, c .lowest-from2 .ensures .above (omega (arith, h)), h)
+loop-less c = without-less _ (inv-some (c .before .before .before .before .before .before .before .before .before .loop .inv) (low (c .before .before .before .before .before .before .before .before .before .loop .k) (c .before .before .before .before .before .before .before .before .before .loop .ring .count) (c .before .before .before .before .before .before .before .if1 .taken)))
 
 loop-again : tie.Need-loop-again Inv-loop μ-loop
 loop-again c =
-    let l = c .before .before .before .before .before .before .before .before .before .before .loop in
-    let a = c .before .before .before .before .before .before .before .before .before .before .before .before .before .before .before .before .args in
-    let p = c .before .before .before .before .before .before .pass .ensures in
-    let dealt = one-dealt (a .binary) (a .again) (a .d) (l .k) (dealing (l .levels) (l .ring) (l .ended) (l .memory)) _ _ _ _ (c .before .before .before .coded .ensures) (p .0) (p .1) (p .2) in
-    inv-turn (l .inv) (low (l .k) (l .ring .count) (c .before .before .before .before .before .before .before .before .if1 .taken)) (some (l .k) (l .ring .count) (c .before .before .before .before .before .before .before .before .if1 .taken)) dealt (c .lowest-from2 .ensures .told)
+    let l = c .before .before .before .before .before .before .before .before .before .loop in
+    let a = c .before .before .before .before .before .before .before .before .before .before .before .before .before .before .args in
+    let p = c .before .before .before .before .before .pass .ensures in
+    let dealt = one-dealt (a .binary) (a .again) (a .d) (l .k) (l .levels) (l .ring) (l .marks) (l .memory) _ _ _ _ (c .before .before .coded .ensures) (p .0) (p .1) (p .2) in
+    inv-turn (l .inv) (low (l .k) (l .ring .count) (c .before .before .before .before .before .before .before .if1 .taken)) (some (l .k) (l .ring .count) (c .before .before .before .before .before .before .before .if1 .taken)) dealt
 
 burst-after-requires : tie.Need-burst-after-requires Inv-loop μ-loop
 burst-after-requires c κs = search needs
@@ -90,11 +82,11 @@ same-length c = c .before .before .before .before .before .before .loop .inv .sa
 
 returns : tie.Need-returns Inv-loop μ-loop
 returns c =
-    let a = c .before .before .before .before .before .before .before .before .before .before .before .before .args in
+    let a = c .before .before .before .before .before .before .before .before .before .before .before .args in
     let l = c .before .before .before .before .before .before .loop in
-    let mask = c .before .before .before .before .before .before .before .before .mask-if .ensures ∙ ap (λ (t : Bool). cond t (a .mask) 0) (c .before .before .before .before .before .before .before .before .before .fits2 .ensures) in
+    let mask = c .before .before .before .before .before .before .before .mask-if .ensures ∙ ap (λ (t : Bool). cond t (a .mask) 0) (c .before .before .before .before .before .before .before .before .fits2 .ensures) in
     record {
-      ended = l .ended;
+      ended = bit 16 (l .marks);
       dealt = inv-end (l .inv) (c .before .before .before .before .if1 .left)
           ∙ ap (λ (n : ℕ). dealAll (a .binary) (a .again) (a .d) (activeFrom 0 n) (dealing (a .levels .now) (a .x .ring) false (a .memory .now))) mask;
       burst = c .before .burst-after .ensures;
@@ -109,15 +101,13 @@ deal-spec =
     μ-loop
     fits-requires
     mask-if-requires
-    lowest-from-requires
     loop-holds
     pass-requires
     cast-at
     coded-requires
     mul-levels
     element-write-levels
-    add-lowest-from
-    lowest-from-requires-2
+    sub-waiting
     loop-less
     loop-again
     burst-after-requires

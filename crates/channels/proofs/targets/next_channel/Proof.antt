@@ -15,7 +15,7 @@ returns : tie.Need-returns
 unfolding nextChannel
 returns c =
     let o = c .before .before .args .c .outputs in
-    let e = c .before .lowest-from .ensures .told in
+    let e = c .before .lowest-from .ensures in
     (e ∙ head-there _ _ (rw e at (c .if1 .taken)) ∙ sym (head-append 0 (activeFrom (o .cursor) (o .mask)) (activeFrom 0 (o .mask))), c .if1 .taken)
 
 lowest-from-requires-2 : tie.Need-lowest-from-requires-2
@@ -25,16 +25,16 @@ returns-2 : tie.Need-returns-2
 unfolding nextChannel headOr
 returns-2 c =
     let o = c .before .before .before .before .args .c .outputs in
-    let e = c .before .lowest-from2 .ensures .told in
-    let none = head-none (o .cursor) (o .mask) (c .before .before .before .before .pre) (rw (c .before .before .before .lowest-from .ensures .told) at (c .before .before .if1 .left)) in
+    let e = c .before .lowest-from2 .ensures in
+    let none = head-none (o .cursor) (o .mask) (c .before .before .before .before .pre) (rw (c .before .before .before .lowest-from .ensures) at (c .before .before .if1 .left)) in
     (e ∙ head-there 0 (activeFrom 0 (o .mask)) (rw e at (c .if2 .taken)) ∙ rw none, c .if2 .taken)
 
 returns-3 : tie.Need-returns-3
 unfolding nextChannel headOr
 returns-3 c =
     let o = c .before .before .before .before .args .c .outputs in
-    let above = head-none (o .cursor) (o .mask) (c .before .before .before .before .pre) (rw (c .before .before .before .lowest-from .ensures .told) at (c .before .before .if1 .left)) in
-    let any = head-none 0 (o .mask) (omega arith) (rw (c .before .lowest-from2 .ensures .told) at (c .if2 .left)) in
+    let above = head-none (o .cursor) (o .mask) (c .before .before .before .before .pre) (rw (c .before .before .before .lowest-from .ensures) at (c .before .before .if1 .left)) in
+    let any = head-none 0 (o .mask) (omega arith) (rw (c .before .lowest-from2 .ensures) at (c .if2 .left)) in
     (rw (above, any), omega arith)
 
 pub next-channel-spec : {M : Type 1} → statement M

@@ -13,20 +13,20 @@ mul-v c = search needs
 slice-read-v : tie.Need-slice-read-v
 slice-read-v c = search needs
 
+add-stepped : tie.Need-add-stepped
+add-stepped c = search needs
+
+stepped-requires : tie.Need-stepped-requires
+stepped-requires c κs = search needs
+
+sub-rest : tie.Need-sub-rest
+sub-rest c = search needs
+
 add-wrapped : tie.Need-add-wrapped
 add-wrapped c = search needs
 
 wrapped-requires : tie.Need-wrapped-requires
 wrapped-requires c κs = search needs
-
-sub-rest : tie.Need-sub-rest
-sub-rest c = search needs
-
-add-wrapped-2 : tie.Need-add-wrapped-2
-add-wrapped-2 c = search needs
-
-wrapped-requires-2 : tie.Need-wrapped-requires-2
-wrapped-requires-2 c κs = search needs
 
 cast-at : tie.Need-cast-at
 cast-at c = search needs
@@ -45,12 +45,12 @@ same-length c = search needs
 
 returns : tie.Need-returns
 returns c =
-    let first = c .before .before .before .wrapped .ensures .0 in
-    let at = c .wrapped2 .ensures .0 in
+    let first = c .before .before .before .stepped .ensures .0 in
+    let at = c .wrapped .ensures .0 in
     rw (c .before .if1 .taken) (refl, rw first, rw (at, first))
 
 returns-2 : tie.Need-returns-2
-returns-2 c = rw (c .if1 .left) (refl, rw (c .before .before .wrapped .ensures .0), refl)
+returns-2 c = rw (c .if1 .left) (refl, rw (c .before .before .stepped .ensures .0), refl)
 
 pub pass-spec : {M : Type 1} → statement M
 pass-spec =
@@ -59,11 +59,11 @@ pass-spec =
     cast-first
     mul-v
     slice-read-v
+    add-stepped
+    stepped-requires
+    sub-rest
     add-wrapped
     wrapped-requires
-    sub-rest
-    add-wrapped-2
-    wrapped-requires-2
     cast-at
     mul-memory
     slice-write-memory
