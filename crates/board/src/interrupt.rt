@@ -5,7 +5,7 @@ ghost use Rattle.board.specs.Parts.{Sized};
 ghost use Rattle.rules.specs.Size.{initialises, codeOf, sizeAfter};
 ghost use Rattle.rules.specs.Interrupt.{condition, requestHeld, edge, requestAfter};
 use crate::sizes::active_size;
-use crate::states::closed;
+use record::closed;
 use rules::Board;
 use rules::Event;
 use rules::Size;

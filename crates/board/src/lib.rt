@@ -10,7 +10,6 @@ mod carry;
 mod interrupt;
 mod registers;
 mod sizes;
-mod states;
 mod steps;
 
 // What an event answers, and the record after it.

@@ -2,12 +2,20 @@
 ghost use mathlib.Core.Logic.{_≢_};
 ghost use mathlib.Core.Path.{_≡_};
 ghost use Rattle.board.specs.Parts.{Sized};
-ghost use Rattle.rules.specs.Bits.{number};
+ghost use Rattle.rules.specs.Bits.{flag, number};
 ghost use Rattle.rules.specs.Registers.{readAt};
 use crate::sizes::active_size;
-use crate::states::bit_of;
-use crate::states::closed;
+use record::closed;
 use rules::Board;
+
+pub(crate) fn bit_of(t: bool) -> u32
+    ensures { λ r. ⌜ r ≡ flag t ⌝ }
+{
+    if t {
+        return 1;
+    }
+    0
+}
 
 // The number of a list of bits, D00 first.
 pub(crate) fn number_of(bits: [bool; 18]) -> u32

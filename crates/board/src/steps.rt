@@ -7,6 +7,7 @@ ghost use Rattle.rules.specs.Refusals.{refusal};
 ghost use Rattle.rules.specs.Size.{sizeAfter};
 ghost use Rattle.rules.specs.Interrupt.{requestHeld};
 ghost use Rattle.rules.specs.Step.{reading};
+ghost use Rattle.rules.specs.Record.{stateOf};
 use crate::Reply;
 use crate::carry::carry;
 use crate::interrupt::request_after;
@@ -69,7 +70,7 @@ pub(crate) fn board_before(b: Board, p: Played, e: Event) -> Board
 
 // An event that is not refused.
 pub(crate) fn done(b: Board, memory: &mut [u32], e: Event) -> Reply
-    requires { ⌜ refusal (record { board = b; memory = now memory }) e ≡ 0 ⌝ }
+    requires { ⌜ refusal (stateOf b (now memory)) e ≡ 0 ⌝ }
     ensures { λ r. ⌜ Stepped b (now (memory .entry)) e r (now (memory .exit)) ⌝ }
 {
     let value = register(b, e);

@@ -7,6 +7,7 @@ use borrow.Author.Tests.{eq-eqb, ne-eqb}
 use lib.Dec.{eqb}
 use lib.ListN.{length}
 use Rattle.rules.specs.Step.{Outcome, step}
+use Rattle.rules.specs.Record.{stateOf}
 use Rattle.board.specs.Promises.{Stepped}
 use Rattle.board.specs.declared.Reply.{Reply}
 use Rattle.layout.specs.Layout.{boardAt, rowOf, toldOf}
@@ -33,7 +34,7 @@ not-understood r m e a n p z =
     record { understood = p; row = rw x; memory = rw x; answer = rw x }
 
 understood-left : (r m e a : List ℕ) → status (length r) e (length a) ≡ 0
-    → leftBy r (step (record { board = boardAt r; memory = m }) (eventAt e)) ≡ left r m e a
+    → leftBy r (step (stateOf (boardAt r) m) (eventAt e)) ≡ left r m e a
 unfolding left
 understood-left r m e a z = rw z
 
@@ -46,11 +47,11 @@ module _ (r m e a r′ m′ a′ : List ℕ) (b : Board) (ev : Event) (y : Reply
   understood z long told ee s pa pr =
       let bb = read-whole r b long told in
       let o = understood-left r m e a z in
-      let w : step (record { board = b; memory = m }) ev ≡ step (record { board = boardAt r; memory = m }) (eventAt e) =
-      λ i. step (record { board = bb i; memory = m }) (ee i) in
-      let wa : y .answer ≡ (step (record { board = boardAt r; memory = m }) (eventAt e)) .answer =
+      let w : step (stateOf b m) ev ≡ step (stateOf (boardAt r) m) (eventAt e) =
+      λ i. step (stateOf (bb i) m) (ee i) in
+      let wa : y .answer ≡ (step (stateOf (boardAt r) m) (eventAt e)) .answer =
       s .answer ∙ ap (λ (x : Outcome). x .answer) w in
-      let wb : y .board ≡ (step (record { board = boardAt r; memory = m }) (eventAt e)) .state .board =
+      let wb : y .board ≡ (step (stateOf (boardAt r) m) (eventAt e)) .state .board =
       s .board ∙ ap (λ (x : Outcome). x .state .board) w in
       record {
         understood = sym z;

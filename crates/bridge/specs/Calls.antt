@@ -8,6 +8,7 @@ use lib.Dec.{eqb, ltb}
 use lib.ListN.{length}
 use Rattle.rules.specs.Step.{Outcome, step}
 use Rattle.rules.specs.Rates.{rates}
+use Rattle.rules.specs.Record.{stateOf}
 use Rattle.layout.specs.Layout.{at, boardAt, rowOf}
 use Rattle.bridge.specs.Types.{Answer, Figures}
 use Rattle.bridge.specs.Events.{eventAt}
@@ -49,7 +50,7 @@ leftBy row o =
 unfoldable pub left : List ℕ → List ℕ → List ℕ → List ℕ → Left
 left row memory e answer =
     cond (eqb (status (length row) e (length answer)) 0)
-    (leftBy row (step (record { board = boardAt row; memory = memory }) (eventAt e)))
+    (leftBy row (step (stateOf (boardAt row) memory) (eventAt e)))
     (record { row = row; memory = memory; answer = answer })
 
 -- ---- The rate question

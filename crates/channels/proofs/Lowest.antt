@@ -10,7 +10,7 @@ use lib.Arith.{digits-div, digits-mod}
 use lib.Dec.{eqb}
 use lib.Bits.{bitAnd, and-step, and-self, and-le-r}
 use lib.Count.{trailingZeros, under, trailing-of-zero}
-use Rattle.rules.specs.Bits.{bit, active, activeFrom}
+use Rattle.rules.specs.Bits.{bit, active}
 use Rattle.rules.proofs.Choice.{cond-true, cond-false}
 use Rattle.channels.proofs.Heads.{halved}
 

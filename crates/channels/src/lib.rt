@@ -1,13 +1,12 @@
 // Which channels an accepted clock serves. Every call takes every input. What it promises is in specs/Promises.antt.
 ghost use Rattle.channels.specs.Promises.{Serves};
 use crate::sizes::to_move;
-use crate::states::closed;
 use crate::targets::cursor_after;
 use crate::targets::served;
+use record::closed;
 use rules::Core;
 
 mod sizes;
-mod states;
 mod targets;
 
 // What an accepted clock is to do: the channels that it gives a value each, as a mask; how many these are; the cursor after it; and

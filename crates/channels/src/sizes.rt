@@ -1,9 +1,16 @@
 // How many values a clock moves.
 ghost use mathlib.Core.Path.{_≡_};
+ghost use Rattle.rules.specs.Clocks.{idle};
 ghost use Rattle.channels.specs.Serving.{toMove};
-use crate::states::idle;
 use crate::targets::group_size;
 use rules::Core;
+
+// 01: "An accepted clock moves nothing if the mask is 0, or if bursts are enabled with none in progress."
+pub(crate) fn idle(c: Core) -> bool
+    ensures { λ r. ⌜ r ≡ idle c ⌝ }
+{
+    (c.outputs.mask == 0) | (c.control.bursts & !c.burst.running)
+}
 
 // 01: "sequential mode moves one value, if any"; "only if that many are stored". 0 where the mask or the cursor is out of range.
 pub(crate) fn to_move(c: Core, count: u32) -> u32

@@ -9,7 +9,7 @@ use mathlib.Core.Bool.{Bool, true, false, cond}
 use mathlib.Core.List.{List, [], _∷_, _++_}
 use lib.Count.{ones}
 use lib.ListN.{length, getD, take, drop}
-use Rattle.laws.specs.Types.{Board, Core, Event, powerUp, write, read, signal, Signal, tick, outside, trigger, passed, failed, settled}
+use Rattle.laws.specs.Types.{Board, Event, powerUp, write, read, signal, Signal, tick, outside, trigger, passed, failed, settled}
 use Rattle.rules.specs.Bits.{bit}
 use Rattle.rules.specs.Record.{State, stored, levelSpan}
 use Rattle.rules.specs.Parts.{withBurst, withLoad, withOutputs}

@@ -7,7 +7,7 @@ use lib.ListN.{length}
 use Rattle.rules.specs.declared.Answer.{Answer}
 use Rattle.rules.specs.declared.Event.{Event}
 use Rattle.rules.specs.declared.Board.{Board}
-use Rattle.rules.specs.Record.{State, start}
+use Rattle.rules.specs.Record.{State, start, stateOf}
 use Rattle.rules.specs.Step.{step}
 use Rattle.rules.specs.Session.{after}
 use Rattle.session.specs.declared.End.{End}
@@ -20,7 +20,7 @@ use Rattle.board.specs.Promises.{Stepped}
 use Rattle.text.specs.Text.{line}
 use Rattle.listing.specs.Pieces.{Put}
 use Rattle.listing.specs.Listing.{tail, left}
-use Rattle.listing.specs.Shortcuts.{stateOf, Kept}
+use Rattle.listing.specs.Shortcuts.{Kept}
 use Rattle.listing.proofs.Puts.{then, put-length}
 use Rattle.text.proofs.Lengths.{line-length}
 use Rattle.listing.proofs.Body.{levelsOf, body, body-event, body-end}

@@ -61,8 +61,5 @@ boardOf b r ls = record { core = coreOf (b .core) r ls; size = b .size; request 
 abbrev pub replyOf : Board → Change → List ℕ → Reply
 replyOf b r ls = record { answer = record { refusal = 0; register = 0; moved = r .moved; fate = r .fate }; board = boardOf b r ls }
 
-abbrev pub stateOf : Board → List ℕ → State
-stateOf b m = record { board = b; memory = m }
-
 abbrev pub Kept : State → Type 0
 Kept s = s .board .core .powered ≡ true → Stands s

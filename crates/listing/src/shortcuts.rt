@@ -4,11 +4,13 @@ ghost use mathlib.Core.Path.{_≡_};
 ghost use mathlib.Core.Bool.{true};
 ghost use Rattle.record.specs.Promises.{DepthTold};
 ghost use Rattle.board.specs.Promises.{Stepped};
-ghost use Rattle.listing.specs.Shortcuts.{aheadEvent, takes, ticks, quick, boardWith, replyOf, stateOf, Kept};
+ghost use Rattle.listing.specs.Shortcuts.{aheadEvent, takes, ticks, quick, boardWith, replyOf, Kept};
+ghost use Rattle.rules.specs.Record.{stateOf};
 use channels::serve;
 use moves::Frame;
 use moves::deal;
 use moves::load;
+use record::closed;
 use rules::Board;
 use rules::Burst;
 use rules::Core;
@@ -30,10 +32,9 @@ pub(crate) fn takes(b: Board, d: u32) -> bool
     ensures { λ r. ⌜ r ≡ takes b d ⌝ }
 {
     let c = b.core;
-    let closed = c.mode.circular & !c.load.opened;
     (c.control.selection == 0)
         & (!c.calibration.running
-            & (!closed & ((b.size.fitted <= b.size.code) & ((b.ring.count < d) & true))))
+            & (!closed(c) & ((b.size.fitted <= b.size.code) & ((b.ring.count < d) & true))))
 }
 
 pub(crate) fn ticks(c: Core) -> bool

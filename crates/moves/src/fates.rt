@@ -2,7 +2,7 @@
 ghost use mathlib.Core.Path.{_≡_};
 ghost use Rattle.moves.specs.Ready.{fateOf};
 use crate::sizes::fits;
-use crate::states::closed;
+use record::closed;
 use rules::Core;
 use rules::Ring;
 

@@ -18,7 +18,6 @@ mod fates;
 mod frames;
 mod ring;
 mod sizes;
-mod states;
 
 // What an event that is not refused did, with the stored values at their places.
 pub struct Played {

@@ -1,6 +1,6 @@
 -- Each promise says that the outcome equals one thing: two that do are equal.
 use Rattle.rules.proofs.Equal.{determined}
-use Rattle.record.specs.Unique.{Unpowered-unique, Depth-unique, Limit-unique}
+use Rattle.record.specs.Unique.{Unpowered-unique, Depth-unique, Limit-unique, Closed-unique}
 
 pub unpowered-unique : Unpowered-unique
 unpowered-unique r r′ p q = determined (p .board) (q .board)
@@ -10,3 +10,6 @@ depth-unique b r r′ p q = determined (p .told) (q .told)
 
 pub limit-unique : Limit-unique
 limit-unique kit r r′ p q = determined (p .told) (q .told)
+
+pub closed-unique : Closed-unique
+closed-unique c r r′ p q = determined (p .told) (q .told)

@@ -1,8 +1,10 @@
 -- Any two outcomes that a promise allows are equal.
 use Prim.Native.Nat.{ℕ}
 use mathlib.Core.Path.{_≡_}
+use mathlib.Core.Bool.{Bool}
 use Rattle.rules.specs.declared.Board.{Board}
-use Rattle.record.specs.Promises.{Unpowered, DepthTold, LimitTold}
+use Rattle.rules.specs.declared.Core.{Core}
+use Rattle.record.specs.Promises.{Unpowered, DepthTold, LimitTold, ClosedTold}
 
 abbrev pub Unpowered-unique : Type 0
 Unpowered-unique = (r r′ : Board) → Unpowered r → Unpowered r′ → r ≡ r′
@@ -12,3 +14,6 @@ Depth-unique = (b : Board) (r r′ : ℕ) → DepthTold b r → DepthTold b r′
 
 abbrev pub Limit-unique : Type 0
 Limit-unique = (kit r r′ : ℕ) → LimitTold kit r → LimitTold kit r′ → r ≡ r′
+
+abbrev pub Closed-unique : Type 0
+Closed-unique = (c : Core) (r r′ : Bool) → ClosedTold c r → ClosedTold c r′ → r ≡ r′

@@ -1,9 +1,9 @@
-// A board record by itself: the unpowered one, its depth, and the mask of its kit.
+// A board record by itself: the unpowered one, its depth, the mask of its kit, and whether its buffer is closed.
 // Every call takes every input. What each promises is in specs/Promises.antt.
 ghost use Prim.Native.Nat.{_≤_};
 ghost use mathlib.Core.Path.{_≡_};
 ghost use Rattle.rules.specs.Record.{depthOf};
-ghost use Rattle.record.specs.Promises.{Unpowered, DepthTold, LimitTold};
+ghost use Rattle.record.specs.Promises.{Unpowered, DepthTold, LimitTold, ClosedTold};
 use rules::Board;
 use rules::Burst;
 use rules::Calibration;
@@ -113,4 +113,11 @@ pub fn mask_limit(kit: u32) -> u32
         return 4096;
     }
     1048576
+}
+
+// 01: "closed = circular and not opened"
+pub fn closed(c: Core) -> bool
+    ensures { λ r. ⌜ ClosedTold c r ⌝ }
+{
+    c.mode.circular & !c.load.opened
 }

@@ -4,7 +4,7 @@ ghost use mathlib.Core.Path.{_≡_};
 ghost use mathlib.Core.Bool.{not, cond};
 ghost use mathlib.Core.List.{List};
 ghost use lib.ListN.{length};
-ghost use Rattle.rules.specs.Record.{depth, sound};
+ghost use Rattle.rules.specs.Record.{depth, sound, stateOf};
 ghost use Rattle.rules.specs.Registers.{isOffset};
 ghost use Rattle.rules.specs.Refusals.{inRange, endsNothing, tooShort, refusal};
 ghost use lib.Dec.{eqb};
@@ -54,7 +54,7 @@ pub(crate) fn ends_nothing(c: Core, x: Signal) -> bool
 
 // 01: "power-up 1, 2"
 pub(crate) fn power_up_refusal(x: Settings, len: usize) -> u32
-    ensures { λ r. ⌜ ((b : Board) (m : List ℕ) → length m ≡ len → r ≡ refusal (record { board = b; memory = m }) (powerUp x)) ⌝ }
+    ensures { λ r. ⌜ ((b : Board) (m : List ℕ) → length m ≡ len → r ≡ refusal (stateOf b m) (powerUp x)) ⌝ }
 {
     if !in_range(x) {
         return 1;
@@ -128,7 +128,7 @@ pub(crate) fn own(c: Core, e: Event) -> u32
 
 // The number of an event that is no power-up.
 pub(crate) fn ordinary_refusal(b: Board, len: usize, e: Event) -> u32
-    ensures { λ r. ⌜ ((m : List ℕ) → length m ≡ len → Ordinary e → r ≡ refusal (record { board = b; memory = m }) e) ⌝ }
+    ensures { λ r. ⌜ ((m : List ℕ) → length m ≡ len → Ordinary e → r ≡ refusal (stateOf b m) e) ⌝ }
 {
     let n = standing(b, len);
     if n == 0 {

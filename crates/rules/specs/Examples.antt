@@ -3,7 +3,7 @@
 use mathlib.Core.List.{List, [], _∷_}
 use lib.ListN.{replicate, take}
 use Rattle.rules.specs.Types.{Event, powerUp, signal, trigger}
-use Rattle.rules.specs.Record.{State}
+use Rattle.rules.specs.Record.{State, stateOf}
 use Rattle.rules.specs.Session.{after}
 use Rattle.rules.specs.Bench.{on, bcr, mask, bor, load, bcr?, bor?, clk, Look, bench, bitRead, moved, held, _shows_, Case, AllCases}
 
@@ -21,7 +21,7 @@ entries es = take 2 ((after bench es) .memory)
 unfoldable pub entriesOverJunk : Look
 entriesOverJunk es =
     let s : State = after bench es in
-    take 2 ((after (record { board = s .board; memory = replicate 16 0x20005 }) (clk ∷ [])) .memory)
+    take 2 ((after (stateOf (s .board) (replicate 16 0x20005)) (clk ∷ [])) .memory)
 
 -- ---- The table
 

@@ -1,5 +1,5 @@
 -- The board record and its memory (01, "The board record and its memory").
---   State        a board record with its lent sample memory
+--   State        a board record with its lent sample memory; stateOf puts the two together
 --   depth b      how many values fit the board; activeSize s: how many the active buffer holds
 --   stored s     the stored values in order, the oldest first
 --   sound b      01's list, clause by clause
@@ -15,6 +15,9 @@ use Rattle.rules.specs.Bits.{all, onlyIf}
 pub record State : Type 0 where
   pub board : Board
   pub memory : List ℕ
+
+abbrev pub stateOf : Board → List ℕ → State
+stateOf board memory = record { board = board; memory = memory }
 
 -- ---- Sizes
 
@@ -126,4 +129,4 @@ unpowered =
     }
 
 abbrev pub start : List ℕ → State
-start memory = record { board = unpowered; memory = memory }
+start memory = stateOf unpowered memory

@@ -3,16 +3,13 @@ use Prim.Native.Nat.{ℕ}
 use mathlib.Core.Path.{_≡_}
 use mathlib.Core.List.{List}
 use Rattle.rules.specs.declared.Board.{Board}
-use Rattle.rules.specs.Record.{State, start}
+use Rattle.rules.specs.Record.{stateOf, start}
 use Rattle.rules.specs.Session.{after}
 use Rattle.session.specs.File.{session}
 use Rattle.run.specs.declared.Cursor.{Cursor}
 use Rattle.run.specs.declared.Advanced.{Advanced}
 use Rattle.run.specs.declared.Ran.{Ran}
 use Rattle.run.specs.Run.{advanced}
-
-abbrev pub stateOf : Board → List ℕ → State
-stateOf b m = record { board = b; memory = m }
 
 -- one record of the file s
 pub record Advances (s : List ℕ) (c : Cursor) (b : Board) (m : List ℕ) (r : Advanced) (m′ : List ℕ) : Type 0 where

@@ -1,7 +1,7 @@
 -- Refused by its number, or done.
 use mathlib.Core.Path.{refl, sym, _∙_}
 use borrow.Author.Needs.{needs}
-use Rattle.rules.specs.Record.{State}
+use Rattle.rules.specs.Record.{stateOf}
 use Rattle.board.proofs.Whole.{refused-stepped}
 use Rattle.board.proofs.step.Statement.{statement}
 use Rattle.board.proofs.step.Tie as tie
@@ -24,7 +24,7 @@ refused-requires c κs = search needs
 returns-2 : tie.Need-returns-2
 returns-2 c =
     let a = c .before .before .before .before .args in
-    let s : State = record { board = a .b; memory = a .memory .now } in
+    let s = stateOf (a .b) (a .memory .now) in
     let r = c .refused .ensures in
     refused-stepped s (a .e) _ _ (c .before .before .refusal .ensures .told _ refl) (c .before .if1 .left) (r .0) (r .1)
 

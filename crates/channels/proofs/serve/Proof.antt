@@ -27,7 +27,7 @@ returns c =
     let h : t ≡ true = eq-eqb _ _ n in
     let mask = sym (cond-true t 0 (servedBy (a .c)) h) in
     let cursor = sym (cond-true t (a .c .outputs .cursor) (cursorAfter (a .c)) h) in
-    record { told = λ i. record { mask = mask i; moved = sym n i; cursor = cursor i; again = c .closed .ensures i } }
+    record { told = λ i. record { mask = mask i; moved = sym n i; cursor = cursor i; again = c .closed .ensures .told i } }
 
 served-requires : tie.Need-served-requires
 served-requires c κs = (move-sober (c .before .before .args .c) (c .before .before .args .count) (λ e. c .if1 .left (c .before .to-move .ensures ∙ e))) .cursor
@@ -46,7 +46,7 @@ returns-2 c =
     let h : t ≡ false = ne-eqb _ _ (λ e. c .before .before .before .if1 .left (c .before .before .before .before .to-move .ensures ∙ e)) in
     let mask = c .before .before .served .ensures ∙ sym (cond-false t 0 (servedBy (a .c)) h) in
     let cursor = c .before .cursor-after .ensures ∙ sym (cond-false t (a .c .outputs .cursor) (cursorAfter (a .c)) h) in
-    record { told = λ i. record { mask = mask i; moved = c .before .before .before .before .to-move .ensures i; cursor = cursor i; again = c .closed2 .ensures i } }
+    record { told = λ i. record { mask = mask i; moved = c .before .before .before .before .to-move .ensures i; cursor = cursor i; again = c .closed2 .ensures .told i } }
 
 pub serve-spec : {M : Type 1} → statement M
 serve-spec =

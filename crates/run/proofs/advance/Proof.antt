@@ -3,10 +3,10 @@ use mathlib.Core.Path.{sym, ap, _∙_}
 use Rattle.session.specs.declared.Item.{Item}
 use Rattle.run.specs.declared.Progress.the-variants.{Played}
 use Rattle.run.specs.Run.{onItem, advanced}
-use Rattle.run.specs.Promises.{stateOf}
 use borrow.Author.Needs.{needs}
 use Rattle.run.proofs.advance.Statement.{statement}
 use Rattle.run.proofs.advance.Tie as tie
+use Rattle.rules.specs.Record.{stateOf}
 
 read-at-requires : tie.Need-read-at-requires
 read-at-requires c κs = search needs

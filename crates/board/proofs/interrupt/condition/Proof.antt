@@ -46,11 +46,11 @@ returns-5 c = rw (c .before .before .match .keys5)
 
 returns-6 : tie.Need-returns-6
 unfolding condition conditions
-returns-6 c = rw (c .before .match .keys6, c .closed .ensures)
+returns-6 c = rw (c .before .match .keys6, c .closed .ensures .told)
 
 returns-7 : tie.Need-returns-7
 unfolding condition conditions
-returns-7 c = rw (c .before .match .keys7, c .closed2 .ensures)
+returns-7 c = rw (c .before .match .keys7, c .closed2 .ensures .told)
 
 returns-8 : tie.Need-returns-8
 unfolding condition

@@ -27,7 +27,7 @@ returns : tie.Need-returns
 unfolding registers readFrom bufferBits
 returns c =
     let d = c .before .before .before .before .before .before in
-    c .number-of .ensures ∙ rw (c .before .closed .ensures, d .active-size .ensures .0, bitsOf-4 (d .before .before .args .b .size .code))
+    c .number-of .ensures ∙ rw (c .before .closed .ensures .told, d .active-size .ensures .0, bitsOf-4 (d .before .before .args .b .size .code))
 
 pub read-buffer-spec : {M : Type 1} → statement M
 read-buffer-spec =

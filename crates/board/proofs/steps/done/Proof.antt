@@ -1,7 +1,7 @@
 -- The parts of the reply are those of the rules' step.
 use mathlib.Core.Path.{_≡_, ap, _∙_}
 use borrow.Author.Needs.{needs}
-use Rattle.rules.specs.Record.{State}
+use Rattle.rules.specs.Record.{stateOf}
 use Rattle.rules.specs.Size.{sizeAfter}
 use Rattle.rules.specs.Interrupt.{requestHeld, requestAfter}
 use Rattle.rules.specs.Step.{boardBefore, withRequest}
@@ -28,7 +28,7 @@ carry-requires : tie.Need-carry-requires
 carry-requires c κs =
     λ k. let a = c .before .before .before .before .before .before .before .before .args in
     let w = c .before .before .plan-of .ensures in
-    let st = refusal-stands (record { board = a .b; memory = a .memory .now }) (a .e) (w .ordinary k) (c .before .before .before .before .before .before .before .before .pre) in
+    let st = refusal-stands (stateOf (a .b) (a .memory .now)) (a .e) (w .ordinary k) (c .before .before .before .before .before .before .before .before .pre) in
     rw (depth-told (a .b) _ (c .before .depth .ensures) (st .sound .fitted))
     (stands-ready _ st, within-sober (w .within k) (stands-sober _ st), st .sound .fitted, size-depth (a .b .size))
 
@@ -38,7 +38,7 @@ board-before-requires c κs = search needs
 request-after-requires : tie.Need-request-after-requires
 request-after-requires c κs =
     let a = c .before .before .before .before .before .before .before .before .before .before .before .before .args in
-    let s : State = record { board = a .b; memory = a .memory .now } in
+    let s = stateOf (a .b) (a .memory .now) in
     let e = c .board-before .ensures in
     let p = planned-does s (a .e) _ _ _ _ (c .before .before .before .before .before .before .before .before .before .before .before .before .pre) (c .before .before .before .before .before .before .plan-of .ensures) (c .before .before .before .before .before .depth .ensures) (c .before .before .before .carry .ensures) in
     both-sized s (a .e) _ (c .before .before .before .before .before .before .before .before .before .before .before .before .pre) (ap (λ (x : Board). x .size) e) (ap (λ (x : Board). x .ring) e ∙ p .ring)
@@ -50,7 +50,7 @@ returns : tie.Need-returns
 unfolding boardBefore
 returns c =
     let a = c .before .before .before .before .before .before .before .before .before .before .before .before .before .args in
-    let s : State = record { board = a .b; memory = a .memory .now } in
+    let s = stateOf (a .b) (a .memory .now) in
     let p = planned-does s (a .e) _ _ _ _ (c .before .before .before .before .before .before .before .before .before .before .before .before .before .pre) (c .before .before .before .before .before .before .before .plan-of .ensures) (c .before .before .before .before .before .before .depth .ensures) (c .before .before .before .before .carry .ensures) in
     let b : c .before .board-before .result ≡ boardBefore s (a .e) =
     c .before .board-before .ensures

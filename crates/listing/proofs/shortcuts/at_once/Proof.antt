@@ -2,12 +2,12 @@
 use Prim.Native.Nat.{ℕ}
 use mathlib.Core.Path.{refl, sym, subst, _∙_}
 use borrow.Author.Needs.{needs}
-use Rattle.rules.specs.Record.{State}
+use Rattle.rules.specs.Record.{State, stateOf}
 use Rattle.record.proofs.Told.{depth-told}
 use Rattle.moves.specs.Ready.{Ready}
 use Rattle.moves.proofs.Clocking.{clocked-does}
 use Rattle.board.proofs.Standing.{stands-ready, stands-sober}
-use Rattle.listing.specs.Shortcuts.{boardWith, stateOf}
+use Rattle.listing.specs.Shortcuts.{boardWith}
 use Rattle.listing.proofs.AtOnce.{load-ahead, tick-ahead, quick-load, quick-tick, stored-stepped, ticked-stepped, takes-with, ticks-with}
 use Rattle.listing.proofs.shortcuts.at_once.Statement.{statement}
 use Rattle.listing.proofs.shortcuts.at_once.Tie as tie

@@ -1,12 +1,15 @@
-use mathlib.Core.Path.{refl}
+use borrow.Author.Needs.{needs}
 use Rattle.rules.specs.Bits.{all}
 use Rattle.listing.specs.Shortcuts.{takes}
 use Rattle.listing.proofs.shortcuts.takes.Statement.{statement}
 use Rattle.listing.proofs.shortcuts.takes.Tie as tie
 
+closed-requires : tie.Need-closed-requires
+closed-requires c κs = search needs
+
 returns : tie.Need-returns
 unfolding takes all
-returns c = refl
+returns c = rw (c .before .before .closed .ensures .told)
 
 pub takes-spec : {M : Type 1} → statement M
-takes-spec = tie.close (tie.spec returns)
+takes-spec = tie.close (tie.spec closed-requires returns)

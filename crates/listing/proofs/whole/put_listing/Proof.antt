@@ -9,14 +9,14 @@ use lib.ListN.{length}
 use Rattle.rules.specs.declared.Core.{Core}
 use Rattle.rules.specs.declared.Ring.{Ring}
 use Rattle.rules.specs.declared.Board.{Board}
-use Rattle.rules.specs.Record.{State, unpowered}
+use Rattle.rules.specs.Record.{State, unpowered, stateOf}
 use Rattle.session.specs.File.{Session, session}
 use Rattle.session.proofs.Given.{item-exactly, item-grows}
 use Rattle.session.proofs.Sessions.{stands-within}
 use Rattle.moves.specs.Promises.{lent}
 use Rattle.board.specs.Promises.{Stepped}
 use Rattle.listing.specs.Listing.{listing, left}
-use Rattle.listing.specs.Shortcuts.{aheadEvent, boardWith, replyOf, stateOf, Kept}
+use Rattle.listing.specs.Shortcuts.{aheadEvent, boardWith, replyOf, Kept}
 use Rattle.listing.proofs.Puts.{then, put-length}
 use Rattle.listing.proofs.Writing.{Turn, turn-start, tail-room, number-small, turn-tail, turn-stepped}
 use Rattle.listing.proofs.Body.{in-reach}

@@ -18,21 +18,21 @@ unfolding fateOf
 returns c =
     let a = c .before .before .before .before .args in
     let can = sym (load-test (a .size) (a .r) (a .d) (a .len) _ (c .before .before .before .fits2 .ensures)) ∙ c .before .before .if1 .taken in
-    sym (cond-true _ _ _ can ∙ cond-true _ _ _ (sym (c .before .closed .ensures) ∙ c .if2 .taken))
+    sym (cond-true _ _ _ can ∙ cond-true _ _ _ (sym (c .before .closed .ensures .told) ∙ c .if2 .taken))
 
 returns-2 : tie.Need-returns-2
 unfolding fateOf
 returns-2 c =
     let a = c .before .before .before .before .before .before .args in
     let can = sym (load-test (a .size) (a .r) (a .d) (a .len) _ (c .before .before .before .before .before .fits2 .ensures)) ∙ c .before .before .before .before .if1 .taken in
-    sym (cond-true _ _ _ can ∙ cond-false _ _ _ (sym (c .before .before .before .closed .ensures) ∙ c .before .before .if2 .left) ∙ cond-true _ _ _ (le-leb _ _ (c .if3 .taken)))
+    sym (cond-true _ _ _ can ∙ cond-false _ _ _ (sym (c .before .before .before .closed .ensures .told) ∙ c .before .before .if2 .left) ∙ cond-true _ _ _ (le-leb _ _ (c .if3 .taken)))
 
 returns-3 : tie.Need-returns-3
 unfolding fateOf
 returns-3 c =
     let a = c .before .before .before .before .before .before .args in
     let can = sym (load-test (a .size) (a .r) (a .d) (a .len) _ (c .before .before .before .before .before .fits2 .ensures)) ∙ c .before .before .before .before .if1 .taken in
-    sym (cond-true _ _ _ can ∙ cond-false _ _ _ (sym (c .before .before .before .closed .ensures) ∙ c .before .before .if2 .left) ∙ cond-false _ _ _ (lt-leb _ _ (c .if3 .left)))
+    sym (cond-true _ _ _ can ∙ cond-false _ _ _ (sym (c .before .before .before .closed .ensures .told) ∙ c .before .before .if2 .left) ∙ cond-false _ _ _ (lt-leb _ _ (c .if3 .left)))
 
 returns-4 : tie.Need-returns-4
 unfolding fateOf

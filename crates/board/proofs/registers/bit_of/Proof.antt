@@ -1,6 +1,6 @@
 use Rattle.rules.specs.Bits.{flag}
-use Rattle.board.proofs.states.bit_of.Statement.{statement}
-use Rattle.board.proofs.states.bit_of.Tie as tie
+use Rattle.board.proofs.registers.bit_of.Statement.{statement}
+use Rattle.board.proofs.registers.bit_of.Tie as tie
 
 returns : tie.Need-returns
 unfolding flag
