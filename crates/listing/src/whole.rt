@@ -35,6 +35,7 @@ pub(crate) fn whole(rest: Board, core: Core, ring: Ring) -> Board
     }
 }
 
+// Part by part: of a core that is copied whole, the compiler keeps groups of flags in memory and waits for them.
 pub(crate) fn with_levels(core: Core, levels: [u16; 20]) -> Core
     ensures { λ r. ⌜ r ≡ lent core levels ⌝ }
 {

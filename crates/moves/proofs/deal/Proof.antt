@@ -46,30 +46,43 @@ pass-requires c κs =
     (l .inv .ready (low (l .k) (l .ring .count) (c .before .if1 .taken)), some (l .k) (l .ring .count) (c .before .if1 .taken))
 
 cast-at : tie.Need-cast-at Inv-loop μ-loop
-cast-at c = let h = low (c .before .before .before .before .before .before .loop .k) (c .before .before .before .before .before .before .loop .ring .count) (c .before .before .before .before .if1 .taken) in search (needs, h)
+cast-at c =
+    let l = c .before .before .before .before .before .before .loop in
+    let h = low (l .k) (l .ring .count) (c .before .before .before .before .if1 .taken) in
+    search (needs, h)
 
 coded-requires : tie.Need-coded-requires Inv-loop μ-loop
 coded-requires c κs = search needs
 
 mul-levels : tie.Need-mul-levels Inv-loop μ-loop
-mul-levels c = omega (arith, low (c .before .before .before .before .before .before .before .loop .k) (c .before .before .before .before .before .before .before .loop .ring .count) (c .before .before .before .before .before .if1 .taken))
+mul-levels c =
+    let l = c .before .before .before .before .before .before .before .loop in
+    omega (arith, low (l .k) (l .ring .count) (c .before .before .before .before .before .if1 .taken))
 
 element-write-levels : tie.Need-element-write-levels Inv-loop μ-loop
-element-write-levels c = omega (arith, low (c .before .before .before .before .before .before .before .loop .k) (c .before .before .before .before .before .before .before .loop .ring .count) (c .before .before .before .before .before .if1 .taken))
+element-write-levels c =
+    let l = c .before .before .before .before .before .before .before .loop in
+    omega (arith, low (l .k) (l .ring .count) (c .before .before .before .before .before .if1 .taken))
 
 sub-waiting : tie.Need-sub-waiting Inv-loop μ-loop
-sub-waiting c = inv-some (c .before .before .before .before .before .before .before .before .before .loop .inv) (low (c .before .before .before .before .before .before .before .before .before .loop .k) (c .before .before .before .before .before .before .before .before .before .loop .ring .count) (c .before .before .before .before .before .before .before .if1 .taken))
+sub-waiting c =
+    let l = c .before .before .before .before .before .before .before .before .before .loop in
+    inv-some (l .inv) (low (l .k) (l .ring .count) (c .before .before .before .before .before .before .before .if1 .taken))
 
 loop-less : tie.Need-loop-less Inv-loop μ-loop
-loop-less c = without-less _ (inv-some (c .before .before .before .before .before .before .before .before .before .loop .inv) (low (c .before .before .before .before .before .before .before .before .before .loop .k) (c .before .before .before .before .before .before .before .before .before .loop .ring .count) (c .before .before .before .before .before .before .before .if1 .taken)))
+loop-less c =
+    let l = c .before .before .before .before .before .before .before .before .before .loop in
+    without-less _ (inv-some (l .inv) (low (l .k) (l .ring .count) (c .before .before .before .before .before .before .before .if1 .taken)))
 
 loop-again : tie.Need-loop-again Inv-loop μ-loop
 loop-again c =
     let l = c .before .before .before .before .before .before .before .before .before .loop in
     let a = c .before .before .before .before .before .before .before .before .before .before .before .before .before .before .args in
     let p = c .before .before .before .before .before .pass .ensures in
-    let dealt = one-dealt (a .binary) (a .again) (a .d) (l .k) (l .levels) (l .ring) (l .marks) (l .memory) _ _ _ _ (c .before .before .coded .ensures) (p .0) (p .1) (p .2) in
-    inv-turn (l .inv) (low (l .k) (l .ring .count) (c .before .before .before .before .before .before .before .if1 .taken)) (some (l .k) (l .ring .count) (c .before .before .before .before .before .before .before .if1 .taken)) dealt
+    let t = c .before .before .before .before .before .before .before .if1 .taken in
+    let level = c .before .before .coded .ensures in
+    let dealt = one-dealt (a .binary) (a .again) (a .d) (l .k) (l .levels) (l .ring) (l .marks) (l .memory) _ _ _ _ level (p .0) (p .1) (p .2) in
+    inv-turn (l .inv) (low (l .k) (l .ring .count) t) (some (l .k) (l .ring .count) t) dealt
 
 burst-after-requires : tie.Need-burst-after-requires Inv-loop μ-loop
 burst-after-requires c κs = search needs
@@ -84,7 +97,8 @@ returns : tie.Need-returns Inv-loop μ-loop
 returns c =
     let a = c .before .before .before .before .before .before .before .before .before .before .before .args in
     let l = c .before .before .before .before .before .before .loop in
-    let mask = c .before .before .before .before .before .before .before .mask-if .ensures ∙ ap (λ (t : Bool). cond t (a .mask) 0) (c .before .before .before .before .before .before .before .before .fits2 .ensures) in
+    let ready = c .before .before .before .before .before .before .before .before .fits2 .ensures in
+    let mask = c .before .before .before .before .before .before .before .mask-if .ensures ∙ ap (λ (t : Bool). cond t (a .mask) 0) ready in
     record {
       ended = bit 16 (l .marks);
       dealt = inv-end (l .inv) (c .before .before .before .before .if1 .left)
