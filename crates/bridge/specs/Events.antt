@@ -10,16 +10,14 @@ use Rattle.session.specs.File.{signalOf}
 use Rattle.layout.specs.Layout.{at}
 use Rattle.bridge.specs.Types.{Event, Settings, powerUp, write, read, signal}
 
-unfoldable pub eventAt : List ℕ → Event
-eventAt e =
-    cond (eqb (at e 0) 1)
-    (powerUp (record { fitted = at e 1; range = at e 2; filter = at e 3; kit = at e 4; firmware = at e 5 }))
-    (cond (eqb (at e 0) 2) (write (at e 1) (at e 2))
-    (cond (eqb (at e 0) 3) (read (at e 1)) (signal (signalOf (at e 0)))))
-
 -- of the kind and the numbers, where those of an access and those of a power-up are read both
 unfoldable pub eventOf : ℕ → ℕ → ℕ → Settings → Event
 eventOf kind offset value settings =
     cond (eqb kind 1) (powerUp settings)
     (cond (eqb kind 2) (write offset value)
     (cond (eqb kind 3) (read offset) (signal (signalOf kind))))
+
+unfoldable pub eventAt : List ℕ → Event
+eventAt e =
+    eventOf (at e 0) (at e 1) (at e 2)
+    (record { fitted = at e 1; range = at e 2; filter = at e 3; kit = at e 4; firmware = at e 5 })

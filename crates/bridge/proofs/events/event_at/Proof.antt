@@ -1,5 +1,5 @@
 use borrow.Author.Needs.{needs}
-use Rattle.bridge.specs.Events.{eventOf, eventAt}
+use Rattle.bridge.specs.Events.{eventAt}
 use Rattle.bridge.proofs.events.event_at.Statement.{statement}
 use Rattle.bridge.proofs.events.event_at.Tie as tie
 
@@ -25,7 +25,7 @@ event-of-requires : tie.Need-event-of-requires
 event-of-requires c κs = search needs
 
 returns : tie.Need-returns
-unfolding eventOf eventAt
+unfolding eventAt
 returns c = c .event-of .ensures
 
 pub event-at-spec : {M : Type 1} → statement M
