@@ -9,7 +9,7 @@ use Rattle.rules.specs.declared.Signal.the-variants.{Tick}
 use Rattle.rules.specs.declared.Event.{Event}
 use Rattle.rules.specs.declared.Event.the-variants.{Write, Signal as signal}
 use Rattle.session.specs.declared.Item.the-variants.{Got}
-use Rattle.session.specs.File.{byteAt, wordAt, quadAt, signalOf, eventAt, itemAt}
+use Rattle.session.specs.File.{byteAt, wordAt, quadAt, signalOf, eventAt, itemAt, eventOf}
 use Rattle.session.specs.Laws.{Known, Whole, event, later}
 use Rattle.session.specs.Laws.{write as writeKnown, signal as signalKnown}
 use Rattle.session.proofs.Given.{item-exactly}
@@ -22,11 +22,11 @@ got-at s zero n w k = absurd (n refl)
 got-at s (suc at) n w k = (item-exactly s (suc at) _) .1 (later at _ (event w k))
 
 tick-event : (s : List ℕ) (at : ℕ) → byteAt s at ≡ 4 → _≡_ {A = Event} (eventAt s at) (signal Tick)
-unfolding eventAt signalOf
+unfolding eventAt eventOf signalOf
 tick-event s at k = rw k
 
 load-event : (s : List ℕ) (at : ℕ) → byteAt s at ≡ 2 → _≡_ {A = Event} (eventAt s at) (Write (byteAt s (at + 1)) (quadAt s (at + 2)))
-unfolding eventAt
+unfolding eventAt eventOf
 load-event s at k = rw k
 
 pub tick-stands : (s : List ℕ) (at v : ℕ) → at ≢ 0 → at + 3 ≤ length s → wordAt s at ≡ 1 → byteAt s (at + 2) ≡ 4

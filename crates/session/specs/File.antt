@@ -69,13 +69,16 @@ settingsAt s at =
       firmware = wordAt s (at + 4);
     }
 
--- the event whose kind stands at a place: "1 power-up (..)", "2 write (offset, value in four)", "3 read (offset)"
+-- the event of a kind: "1 power-up (..)", "2 write (offset, value ..)", "3 read (offset)", and the signals
+unfoldable pub eventOf : ℕ → ℕ → ℕ → Settings → Event
+eventOf kind offset value settings =
+    cond (eqb kind 1) (powerUp settings)
+    (cond (eqb kind 2) (write offset value)
+    (cond (eqb kind 3) (read offset) (signal (signalOf kind))))
+
+-- whose kind stands at a place: "(offset, value in four)"
 unfoldable pub eventAt : List ℕ → ℕ → Event
-eventAt s at =
-    cond (eqb (byteAt s at) 1) (powerUp (settingsAt s (at + 1)))
-    (cond (eqb (byteAt s at) 2) (write (byteAt s (at + 1)) (quadAt s (at + 2)))
-    (cond (eqb (byteAt s at) 3) (read (byteAt s (at + 1)))
-    (signal (signalOf (byteAt s at)))))
+eventAt s at = eventOf (byteAt s at) (byteAt s (at + 1)) (quadAt s (at + 2)) (settingsAt s (at + 1))
 
 -- of a record that is whole: "length 0 (12), 13, 12"
 unfoldable pub wholeRecord : List ℕ → ℕ → Item

@@ -7,7 +7,7 @@ use lib.Dec.{eqb}
 use denote.Ref.{now}
 use Rattle.rules.specs.declared.Event.the-variants.{PowerUp, Write, Read, Signal}
 use Rattle.rules.proofs.Choice.{cond-true, cond-false}
-use Rattle.session.specs.File.{signalOf, eventAt}
+use Rattle.session.specs.File.{signalOf, eventAt, eventOf}
 use Rattle.session.specs.Laws.{powerUp, write, read}
 use Rattle.session.proofs.Lengths.{room}
 use borrow.Author.Needs.{needs}
@@ -61,14 +61,14 @@ signal-of-requires : tie.Need-signal-of-requires
 signal-of-requires c κs = search needs
 
 returns : tie.Need-returns
-unfolding eventAt
+unfolding eventAt eventOf
 returns c =
     let m = c .before in
     let e = sym (m .before .byte-at .ensures .0) ∙ m .match .keys1 in
     ap PowerUp (c .settings-at .ensures) ∙ sym (cond-true _ _ _ (eq-eqb _ _ e))
 
 returns-2 : tie.Need-returns-2
-unfolding eventAt
+unfolding eventAt eventOf
 returns-2 c =
     let m = c .before .before in
     let e = sym (m .before .byte-at .ensures .0) ∙ m .match .keys2 in
@@ -76,7 +76,7 @@ returns-2 c =
     ∙ sym (cond-false _ _ _ (ap (λ (x : ℕ). eqb x 1) e) ∙ cond-true _ _ _ (eq-eqb _ _ e))
 
 returns-3 : tie.Need-returns-3
-unfolding eventAt
+unfolding eventAt eventOf
 returns-3 c =
     let m = c .before in
     let e = sym (m .before .byte-at .ensures .0) ∙ m .match .keys3 in
@@ -84,7 +84,7 @@ returns-3 c =
     ∙ sym (cond-false _ _ _ (ap (λ (x : ℕ). eqb x 1) e) ∙ cond-false _ _ _ (ap (λ (x : ℕ). eqb x 2) e) ∙ cond-true _ _ _ (eq-eqb _ _ e))
 
 returns-4 : tie.Need-returns-4
-unfolding eventAt
+unfolding eventAt eventOf
 returns-4 c =
     let m = c .before in
     let r = m .match .rest in
