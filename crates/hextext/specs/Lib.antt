@@ -1,0 +1,5 @@
+pub mod Hex
+pub mod Promises
+pub mod Unique
+pub mod Table
+pub mod Laws
