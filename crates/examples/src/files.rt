@@ -1,26 +1,15 @@
 // Files of the working folder, read whole.
 ghost use mathlib.Core.Path.{_≡_};
 ghost use lib.ListN.{length};
-ghost use Rattle.io.specs.Counts.{Counts};
-
-// So many bytes, or none that could be had.
-pub(crate) enum Got {
-    Bytes(usize),
-    Nothing,
-}
+use console::Input;
+use console::read_all;
+use console::within;
 
 // Room for a file of 65,536 bytes and one byte more, by which a longer file is known.
 pub(crate) fn file_room() -> [u8; 65537]
     ensures { λ r. ⌜ 65537 ≡ length r ⌝ }
 {
     [0u8; 65537]
-}
-
-// n, or the length of buf where n is more. So a number out of an enum can end a part of buf, with no promise about the enum.
-pub(crate) fn within(n: usize, buf: &[u8]) -> usize
-    ensures { λ r. ⌜ Counts r (now (buf .entry)) ⌝ }
-{
-    if n < buf.len() { n } else { buf.len() }
 }
 
 // Text from a place on, as far as the path has room: a path that was cut names no file of the examples.
@@ -38,20 +27,22 @@ fn put(path: &mut [u8], at: usize, text: &[u8]) -> usize {
     place
 }
 
-// Reads the file of this name and ending. One that is missing or longer than 65,536 bytes counts as nothing.
-pub(crate) fn read(name: &[u8], ending: &[u8], buf: &mut [u8]) -> Got {
+// Reads the file of this name and ending. One that cannot be opened, or is longer than 65,536 bytes, counts as failed.
+pub(crate) fn read(name: &[u8], ending: &[u8], buf: &mut [u8]) -> Input {
     let mut path = [0u8; 64];
     let stem = put(&mut path, 0, name);
     let all = put(&mut path, stem, ending);
     let k = within(all, &path);
     let fd = os::open_read(&path[..k]);
     if fd < 0 {
-        return Got::Nothing;
+        return Input::Failed;
     }
-    let n = io::read_full(fd, buf);
+    let got = read_all(fd, buf);
     libc::close(fd);
-    if 65536 < n {
-        return Got::Nothing;
+    if let Input::Bytes(n) = got {
+        if 65536 < n {
+            return Input::Failed;
+        }
     }
-    Got::Bytes(n)
+    got
 }

@@ -1,6 +1,11 @@
-// Reads a session file from standard input to its end and writes its listing: the rest is crate `listing`.
+// Reads a session file from standard input to its end and writes its listing: the rest is crate `listing`. Where the input cannot be
+// read, that is said on standard error and nothing is listed.
 ghost use mathlib.Core.Path.{_≡_};
 ghost use lib.ListN.{length};
+use console::Input;
+use console::read_input;
+use console::within;
+use console::write_output;
 use listing::Listed;
 
 // One byte more than a file may have, so that a longer input shows.
@@ -23,19 +28,20 @@ fn output_room() -> [u8; 1441952]
     [0u8; 1441952]
 }
 
-fn write_text(out: &[u8], k: usize) {
-    if k <= out.len() {
-        io::write_all(1, &out[..k]);
+fn show(file: &[u8]) {
+    let mut memory = memory_room();
+    let mut out = output_room();
+    // never `Short` with the room above
+    if let Listed::Text(n) = listing::list(file, &mut memory, &mut out) {
+        let k = within(n, &out);
+        write_output(b"rehearse", &out[..k]);
     }
 }
 
 fn main() {
     let mut file = file_room();
-    let mut memory = memory_room();
-    let mut out = output_room();
-    let n = io::read_full(0, &mut file);
-    let listed = listing::list(&file[..n], &mut memory, &mut out);
-    if let Listed::Text(k) = listed {
-        write_text(&out, k);
+    if let Input::Bytes(n) = read_input(b"rehearse", &mut file) {
+        let k = within(n, &file);
+        show(&file[..k]);
     }
 }
