@@ -4,7 +4,9 @@
 #   need TOOL WHY             fails in a sentence where a tool is missing
 #   make_program NAME...      proves and builds programs: target/bin/NAME
 #   make_archive NAME...      proves and builds archives for hosts: target/staticlib/libNAME.a
+#   built_with NAME           the toolchain that built NAME
 # What was built from the sources as they are now, to the byte, is not built again. `quiet=0` shows what rt says.
+# shellcheck shell=sh disable=SC2154
 
 say() { printf '%s: %s\n' "$me" "$*" >&2; }
 
@@ -37,29 +39,29 @@ sources_of() { # NAME
     (
         cd "$root" || exit
         grep -v '^ *#' crates.txt
-        set --  $(crates_under "$1" | sed 's,.*,crates/&/src crates/&/specs crates/&/proofs,')
-        find "$@" -type f -exec sha256sum {} + 2>/dev/null | LC_ALL=C sort
+        # shellcheck disable=SC2046
+        find $(crates_under "$1" | sed 's,.*,crates/&/src crates/&/specs crates/&/proofs,') -type f -exec sha256sum {} + 2>/dev/null | LC_ALL=C sort
     ) | sha256sum | cut -d' ' -f1
 }
 
-# The line that says what FILE was made of; where rt is missing nothing can be built anew, so any toolchain's is taken.
-stamp_of() { # NAME FILE
-    printf '%s %s %s\n' "$(sources_of "$1")" "$(sha256sum <"$root/$2" | cut -d' ' -f1)" "$toolchain"
+# target/made/NAME says of what and with what FILE was made: three fields, the last with blanks in it.
+stamp_of() { # SOURCES FILE TOOLCHAIN
+    printf '%s %s %s\n' "$1" "$(sha256sum <"$root/$2" | cut -d' ' -f1)" "$3"
 }
 
+built_with() { cut -d' ' -f3- <"$root/target/made/$1"; } # NAME
+
+# Whether FILE is what the sources make. Where rt is missing nothing can be built anew, so any toolchain's work is taken.
 is_current() { # NAME FILE
     [ -s "$root/$2" ] && [ -f "$root/target/made/$1" ] || return 1
-    kept=$(cat "$root/target/made/$1")
-    toolchain=${kept#* * }
-    if command -v rt >/dev/null 2>&1; then toolchain=$(rt version); fi
-    [ "$kept" = "$(stamp_of "$1" "$2")" ]
+    if command -v rt >/dev/null 2>&1; then with=$(rt version); else with=$(built_with "$1"); fi
+    [ "$(cat "$root/target/made/$1")" = "$(stamp_of "$(sources_of "$1")" "$2" "$with")" ]
 }
 
 # One build at a time in a folder: the others wait, and then mostly find it done.
-lock() {
-    mkdir -p "$root/target/made" 2>/dev/null || fail "cannot write in $root/target, so nothing can be built there"
-    (: >>"$root/target/made/lock") 2>/dev/null || fail "cannot write in $root/target, so nothing can be built there"
+lock() { # WHY
     need flock "it is part of util-linux"
+    (mkdir -p "$root/target/made" && : >>"$root/target/made/lock") 2>/dev/null || fail "$1, and nothing can be built, since $root/target cannot be written"
     exec 9>>"$root/target/made/lock"
     flock -n 9 && return
     say "another build is under way in $root; waiting for it"
@@ -70,7 +72,6 @@ unlock() { exec 9>&-; }
 
 # Runs rt in the project's folder. What it says is shown where it fails.
 run_rt() { # WORDS
-    need rt "it is the Rattle toolchain's command, which proves and builds the programs"
     if [ "${quiet:-1}" -eq 0 ]; then
         (cd "$root" && exec rt "$@" 9>&-) >&2
         return
@@ -80,21 +81,23 @@ run_rt() { # WORDS
     return 1
 }
 
-# Builds by COMMAND what is not current. What stood there is removed first, so that nothing stale is left where the build fails.
+# Builds by COMMAND what is not current. What is there and is not what the sources make is removed first, so that nothing stale is left
+# where the build fails; what rt made and no script has seen yet is for rt to judge, which goes by content too.
 make_by() { # COMMAND NAME FILE
     ! is_current "$2" "$3" || return 0
-    lock
+    if [ -e "$root/$3" ]; then why="$2 is not what the sources make"; else why="$2 is not built yet"; fi
+    need rt "it is the Rattle toolchain's command, and $why"
+    lock "$why"
     if ! is_current "$2" "$3"; then
-        if [ ! -d "$root/target/rlib" ]; then
-            say "building for the first time: everything is proved, which takes some minutes"
-        else
-            say "building $2, since a source has changed"
+        if [ ! -e "$root/$3" ] || [ -e "$root/target/made/$2" ]; then
+            if [ -d "$root/target/rlib" ]; then say "$why; building it"; else say "$why; the first build proves everything, which takes some minutes"; fi
+            rm -f "$root/$3" "$root/target/made/$2" "$root/target/stamp/$2" || fail "$why, and nothing can be built, since $root/target cannot be written"
         fi
-        rm -f "$root/$3" "$root/target/made/$2" "$root/target/stamp/$2" || fail "cannot write in $root/target, so nothing can be built there"
+        # taken before the build: a source that changes meanwhile counts as changed
+        sources=$(sources_of "$2")
         run_rt "$1" "$2" || fail "$2 could not be built; what rt said is above"
         [ -s "$root/$3" ] || fail "$2 could not be built: there is no $3"
-        toolchain=$(rt version)
-        stamp_of "$2" "$3" >"$root/target/made/$2" || fail "cannot write in $root/target"
+        stamp_of "$sources" "$3" "$(rt version)" >"$root/target/made/$2" || fail "$root/target cannot be written"
     fi
     unlock
 }

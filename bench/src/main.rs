@@ -8,12 +8,12 @@ use std::process::exit;
 use std::time::{Duration, Instant};
 
 const HELP: &str = "\
-bench - the proved listing of whole sessions against the same in Rust
+bench/run - the proved listing of whole sessions against the same in Rust
 
-usage: bench [--rounds N] [--only NAME] [--help]
+usage: bench/run [--rounds N] [--only NAME] [--ours] [--help]
 
-  --rounds N     replay each session N times on each side, in turns, and take the
-                 best (default 2000)
+  --rounds N     how often each session is replayed on each side, a number from 1
+                 (default 2000); in turns, and the best is taken
   --only NAME    only this session: streaming, circular, simultaneous or random
   --ours         only the proved side and no table, for a profiler
   --help         this text
@@ -27,7 +27,7 @@ Exit status: 0 measured, 1 the listings differ, 2 wrong usage.
 const MEMORY: usize = 16_384;
 
 struct Options {
-    rounds: u32,
+    rounds: u64,
     only: Option<String>,
     ours: bool,
 }
@@ -75,7 +75,7 @@ fn options() -> Result<Options, String> {
         match option.as_str() {
             "--rounds" => {
                 let text = word()?;
-                options.rounds = match text.parse() {
+                options.rounds = match text.replace(['_', ','], "").parse() {
                     Ok(rounds) if rounds > 0 => rounds,
                     _ => return Err(format!("--rounds: `{text}` is not a number from 1")),
                 };
@@ -111,7 +111,7 @@ impl Ours {
     }
 }
 
-fn measure(name: &str, file: &[u8], rounds: u32) {
+fn measure(name: &str, file: &[u8], rounds: u64) {
     let mut ours = Ours::new(file);
     let length = ours.list(file);
     let mut memory = vec![0; MEMORY];

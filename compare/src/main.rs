@@ -16,10 +16,10 @@ use coverage::{Coverage, Seen};
 use std::process::exit;
 
 const HELP: &str = "\
-compare - the reference model of the output board against another implementation
+compare/run - the second model of the output board against the proved one
 
-usage: compare [--seed S] [--events N] [--keep-going] [--coverage]
-               [--only SESSION] [--no-child] [--help]
+usage: compare/run [--seed S] [--events N] [--keep-going] [--coverage]
+                   [--only SESSION] [--no-child] [--help]
 
   --seed S        the seed, a number from 0 (default 1)
   --events N      about how many events; a session is finished (default 1000000)
@@ -33,8 +33,8 @@ usage: compare [--seed S] [--events N] [--keep-going] [--coverage]
   --help          this text
 
 After every event the answer, the 55 numbers of the record, the rate figures,
-the sample memory and the words beside the lent slices are compared. A difference is shrunk and
-printed. The last line is `N events, D differ`.
+the sample memory and the words beside the lent slices are compared. A
+difference is shrunk and printed. The last line is `N events, D differ`.
 Exit status: 0 nothing differs, 1 something does, 2 wrong usage.
 ";
 
@@ -69,7 +69,7 @@ fn main() {
     let options = match options() {
         Ok(options) => options,
         Err(text) => {
-            eprintln!("{text}\n(`compare --help` tells more)");
+            eprintln!("{text}\n(`compare/run --help` tells more)");
             exit(2);
         }
     };
@@ -99,7 +99,7 @@ fn options() -> Result<Options, String> {
             let text = given
                 .next()
                 .ok_or(format!("{option}: a number is missing"))?;
-            text.replace('_', "")
+            text.replace(['_', ','], "")
                 .parse()
                 .map_err(|_| format!("{option}: `{text}` is not a number"))
         };

@@ -14,9 +14,10 @@ use std::process::exit;
 use tally::Tally;
 
 const HELP: &str = "\
-sessions - the second model against libferry.a, by whole session files
+compare/sessions - the second model against libferry.a, by whole session files
 
-usage: sessions [--seed S] [--sessions N] [--only INDEX] [--coverage] [--help]
+usage: compare/sessions [--seed S] [--sessions N] [--only INDEX] [--coverage]
+                        [--help]
 
   --seed S        the seed, a number from 0 (default 1)
   --sessions N    how many session files (default 100000)
@@ -53,7 +54,7 @@ fn main() {
     let options = match options() {
         Ok(options) => options,
         Err(text) => {
-            eprintln!("{text}\n(`sessions --help` tells more)");
+            eprintln!("{text}\n(`compare/sessions --help` tells more)");
             exit(2);
         }
     };
