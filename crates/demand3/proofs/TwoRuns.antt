@@ -27,7 +27,7 @@ use Rattle.rules.specs.Interrupt.{conditions, condition, requestHeld, edge, req
 use Rattle.rules.specs.Refusals.{refusal}
 use Rattle.rules.specs.Step.{Outcome, refused, played, boardBefore, done, step}
 use Rattle.rules.specs.Laws.Refusals.{Ordinary}
-use Rattle.rules.specs.Laws.Own.{ownNumber}
+use Rattle.rules.specs.Own.{ownNumber}
 use Rattle.demand3.specs.Demand3.{NeverLower, same, deeper, larger, PowerUpAccepted, NoQuarter}
 use Rattle.rules.proofs.Own.{refusal-own}
 use Rattle.rules.proofs.Sizes.{_⊑_, full-mono}

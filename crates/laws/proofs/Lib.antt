@@ -6,6 +6,7 @@ pub mod Among
 pub mod Actives
 pub mod Levels
 pub mod Places
+pub mod Again
 -- one event
 pub mod Offsets
 pub mod Allowed

@@ -1,6 +1,6 @@
 -- Loads: fates exactly as specs/Loads says, and where a stored value stands.
 use Prim.Native.Nat.{ℕ, zero, suc, _+_, _%_, _≤_, _<_}
-use mathlib.Core.Path.{_≡_, refl, ap, _∙_}
+use mathlib.Core.Path.{_≡_, refl, sym, ap, subst, _∙_}
 use mathlib.Core.Bool.{Bool, true, false}
 use mathlib.Core.List.{List, [], _∷_, _++_}
 use native.Mathlib.Nat.{mod-mod, mod-lt}
@@ -9,7 +9,7 @@ use borrow.Author.Tests.{leb-true, leb-false, lt-leb, eqb-true}
 use lib.Dec.{eqb}
 use lib.ListN.{length, getD}
 use lib.Seq.{getD-set-same, getD-set-other}
-use Rattle.laws.specs.Types.{Core, Event, powerUp, write, read, signal, Signal, tick, outside, trigger, passed, failed, settled}
+use Rattle.laws.specs.Types.{Core, Lost, Event, powerUp, write, read, signal, Signal, tick, outside, trigger, passed, failed, settled}
 use Rattle.rules.specs.Bits.{bit}
 use Rattle.rules.specs.Record.{State, activeSize, depth, stored, valueSpan}
 use Rattle.rules.specs.Parts.{withLost}
@@ -22,7 +22,8 @@ use Rattle.rules.specs.Size.{codeOf, sizeAfter}
 use Rattle.rules.specs.Refusals.{refusal}
 use Rattle.rules.specs.Step.{Outcome, refused, played, placed, boardBefore, done, step}
 use Rattle.rules.specs.Laws.Refused.{SameRoom}
-use Rattle.laws.specs.Loads.{Loaded, Load-loaded, IsLoad, Fate-none}
+use Rattle.rules.specs.Laws.Stays.{AllStay, all, _also_}
+use Rattle.laws.specs.Loads.{besidesLost, Loaded, Load-loaded, IsLoad, Fate-none}
 use Rattle.laws.specs.Places.{Load-place}
 use Rattle.rules.proofs.Choice.{either}
 use Rattle.laws.proofs.Places.{onList}
@@ -32,6 +33,10 @@ use Rattle.rules.proofs.States.{closed-exactly, closed-not}
 use Rattle.rules.proofs.Steps.{placeOf, step-done, step-refused, step-cases, stored-length}
 use Rattle.laws.proofs.Kept.{Kept, kept, stands-fit}
 use Rattle.rules.proofs.Refusals.{refusal-stands}
+
+-- overflow flags put anew leave all else
+lost-alone : (c : Core) (x : Lost) (c′ : Core) → c′ ≡ withLost x c → AllStay c c′ besidesLost
+lost-alone c x c′ e = subst (λ (y : Core). AllStay c y besidesLost) (sym e) (refl also refl also refl also refl also refl also refl also refl also refl also refl also refl also refl also all)
 
 module _ (s : State) (v : ℕ) where
   -- whether the active buffer is full
@@ -95,7 +100,7 @@ module _ (s : State) (v : ℕ) where
           room = (λ z. absurd (omega arith), λ z. absurd (z .0 k));
           appended = λ z. absurd (omega arith);
           lostToFull = λ z. absurd (omega arith);
-          lostToClosed = λ _. (t .2, t .1);
+          lostToClosed = λ _. (t .2, ap (λ (x : Core). x .lost .full) (t .1), ap (λ (x : Core). x .lost .closed) (t .1), lost-alone (s .board .core) _ _ (t .1));
           lostRoom = λ _. room-same _ (played-closed c) refl;
           size = size-same;
         }
@@ -112,7 +117,7 @@ module _ (s : State) (v : ℕ) where
           full = (λ _. (k, l), λ _. f);
           room = (λ z. absurd (omega arith), λ z. absurd (omega arith));
           appended = λ z. absurd (omega arith);
-          lostToFull = λ _. (t .2, t .1);
+          lostToFull = λ _. (t .2, ap (λ (x : Core). x .lost .full) (t .1), ap (λ (x : Core). x .lost .closed) (t .1), lost-alone (s .board .core) _ _ (t .1));
           lostToClosed = λ z. absurd (omega arith);
           lostRoom = λ _. room-same _ (played-full c g) refl;
           size = size-same;

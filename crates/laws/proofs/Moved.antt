@@ -1,6 +1,6 @@
 -- What an accepted clock moves, where to, what it leaves stored, and how many values any event moves.
 use Prim.Native.Nat.{ℕ, zero, suc, _+_, _≤_, _<_}
-use mathlib.Core.Path.{_≡_, refl, sym, ap, _∙_}
+use mathlib.Core.Path.{_≡_, refl, sym, ap, subst, _∙_}
 use mathlib.Core.Logic.{_⊎_, inl, inr}
 use mathlib.Core.Bool.{Bool, true, false, _||_, cond}
 use mathlib.Core.List.{List, [], _∷_}
@@ -18,7 +18,8 @@ use Rattle.rules.specs.Refusals.{refusal}
 use Rattle.rules.specs.Step.{Outcome, refused, done, step}
 use Rattle.rules.specs.Laws.Soundness.{Sound}
 use Rattle.rules.specs.Laws.Refusals.{Ordinary}
-use Rattle.laws.specs.Moved.{groupSize, ReadyToMove, levelAt, MayMove, Idle-nothing, Clock-moves, Moved-most, Moved-group, Moved-none}
+use Rattle.rules.specs.Laws.Stays.{AllStay, all, _also_}
+use Rattle.laws.specs.Moved.{besidesMoved, groupSize, ReadyToMove, levelAt, MayMove, Idle-nothing, Clock-moves, Moved-most, Moved-group, Moved-none}
 use Rattle.rules.proofs.Choice.{cases, either}
 use Rattle.laws.proofs.Offsets.{write-cases}
 use Rattle.laws.proofs.Places.{onList}
@@ -73,7 +74,7 @@ clock-moves s x twenty z a h =
       hold = λ k m. ap (λ (x : Core). getD (x .outputs .levels) k 0) (r .core) ∙ laid-hold (c .control .binary) (c .outputs .levels) (targets c) _ k m;
       single = λ e. ap (λ (x : Core). x .outputs .cursor) (r .core) ∙ cursor-single c e;
       group = λ e. ap (λ (x : Core). x .outputs .cursor) (r .core) ∙ cursor-zeroed c ((sound-core (s .board) sound) .outputs) e;
-      rest = rw (r .core);
+      stays = subst (λ (x : Core). AllStay c x besidesMoved) (sym (r .core)) (refl also refl also refl also refl also refl also refl also refl also refl also all);
       size = r .size;
     }
 

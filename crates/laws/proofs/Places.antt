@@ -31,12 +31,16 @@ mod-lap {f} {c} {d} hf hc = go (decLt (f + c) d)
         let r : (f + c) % d ≡ f + c - d = ap (λ (x : ℕ). x % d) e ∙ add-mod-right (f + c - d) d ∙ mod-eq-of-lt (omega arith) in
         inr (omega arith)
 
-mod-away : {f c d : ℕ} → f < d → suc c < d → f ≢ (f + suc c) % d
+pub mod-away : {f c d : ℕ} → f < d → suc c < d → f ≢ (f + suc c) % d
 mod-away {f} {c} {d} hf hc e = go (mod-lap hf hc)
   where
     go : ((f + suc c) % d ≡ f + suc c) ⊎ ((f + suc c) % d + d ≡ f + suc c) → ⊥
     go (inl h) = omega arith
     go (inr h) = omega arith
+
+-- nought on
+pub mod-here : (f d : ℕ) → f < d → f ≡ (f + 0) % d
+mod-here f d h = sym (rw add-zero (mod-eq-of-lt h))
 
 -- one place on, and then c more, is suc c on
 pub mod-shift : (f c d : ℕ) → ((f + 1) % d + c) % d ≡ (f + suc c) % d
@@ -48,9 +52,8 @@ values-store : (d f c v : ℕ) (m : List ℕ) → f < d → c < d → d ≤ leng
     → values d f (suc c) (set m ((f + c) % d) v) ≡ values d f c m ++ (v % valueSpan ∷ [])
 unfolding values
 values-store d f zero v m hf hc hm =
-    let e : (f + 0) % d ≡ f = rw add-zero (mod-eq-of-lt hf) in
     let h : f < length m = omega arith in
-    rw e (ap (λ (x : ℕ). x % valueSpan ∷ []) (getD-set-same m f v 0 h))
+    rw (← mod-here f d hf) (ap (λ (x : ℕ). x % valueSpan ∷ []) (getD-set-same m f v 0 h))
 values-store d f (suc c) v m hf hc hm =
     ap₂ {C = List ℕ} (λ x xs. x % valueSpan ∷ xs) (getD-set-other m ((f + suc c) % d) f v 0 (mod-away hf hc))
     (ap (λ (p : ℕ). values d ((f + 1) % d) (suc c) (set m p v)) (sym (mod-shift f c d))
@@ -61,8 +64,7 @@ pub getD-values : (d f c i : ℕ) (m : List ℕ) → f < d → i < c → getD (v
 unfolding values
 getD-values d f zero i m hf h = absurd (not-suc-le-zero h)
 getD-values d f (suc c) zero m hf h =
-    let e : (f + 0) % d ≡ f = rw add-zero (mod-eq-of-lt hf) in
-    ap (λ (x : ℕ). getD m x 0 % valueSpan) (sym e)
+    ap (λ (x : ℕ). getD m x 0 % valueSpan) (mod-here f d hf)
 getD-values d f (suc c) (suc i) m hf h =
     getD-values d ((f + 1) % d) c i m (mod-lt (f + 1) (omega arith)) (le-of-suc-le-suc h) ∙ ap (λ (x : ℕ). getD m x 0 % valueSpan) (mod-shift f i d)
 
@@ -165,7 +167,7 @@ take-one d p h = go (p .ring .count) refl
     go zero e = absurd (omega arith)
     go (suc c) e = rw e (ap (λ (x : ℕ). x ∷ []) (sym (mod-mod _ valueSpan)))
 
-placed-again : (d : ℕ) (p : Place) → Good d p → zero < p .ring .count → Placed d p (placeAgain d p) (drop 1 (listed d p) ++ take 1 (listed d p))
+pub placed-again : (d : ℕ) (p : Place) → Good d p → zero < p .ring .count → Placed d p (placeAgain d p) (drop 1 (listed d p) ++ take 1 (listed d p))
 placed-again d p g h =
     let a = placed-leave d p g h in
     let b = placed-store d (getD (p .memory) (p .ring .first) 0 % valueSpan) (placeLeave d p) (a .good) (omega (arith, g .count-le)) (mod-lt _ (omega arith)) in

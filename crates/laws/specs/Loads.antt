@@ -3,15 +3,19 @@ use Prim.Native.Nat.{ℕ, _%_, _≤_, _<_}
 use mathlib.Core.Path.{_≡_}
 use mathlib.Core.Logic.{_≢_, _↔_}
 use mathlib.Core.Bool.{true}
-use mathlib.Core.List.{[], _∷_, _++_}
+use mathlib.Core.List.{List, [], _∷_, _++_}
 use lib.ListN.{length}
 use Rattle.laws.specs.Types.{Event, powerUp, write, read, signal}
 use Rattle.rules.specs.Record.{State, stored, activeSize, valueSpan}
-use Rattle.rules.specs.Parts.{withLost}
 use Rattle.rules.specs.Refusals.{refusal}
 use Rattle.rules.specs.Step.{Outcome, step}
 use Rattle.rules.specs.Laws.Refused.{SameRoom}
 use Rattle.rules.specs.Laws.Closed.{Closed}
+use Rattle.rules.specs.Laws.Stays.{Part, power, options, control, mode, calibration, clock, burst, load, mask, cursor, levels, AllStay}
+
+-- all but the overflow flags
+abbrev pub besidesLost : List Part
+besidesLost = power ∷ options ∷ control ∷ mode ∷ calibration ∷ clock ∷ burst ∷ load ∷ mask ∷ cursor ∷ levels ∷ []
 
 -- 01: "if closed, FRAME OVERFLOW (D17) is set and the value lost; else if full, BUFFER OVERFLOW (D16); else it is stored."
 pub record Loaded (s : State) (v : ℕ) (o : Outcome) : Type 0 where
@@ -24,10 +28,14 @@ pub record Loaded (s : State) (v : ℕ) (o : Outcome) : Type 0 where
   -- lost: the list is as it was, the flag is set, and nothing else of the core is changed
   pub lostToFull : o .answer .fate ≡ 2
       → (stored (o .state) ≡ stored s)
-      × (o .state .board .core ≡ withLost (record { full = true; closed = s .board .core .lost .closed }) (s .board .core))
+      × (o .state .board .core .lost .full ≡ true)
+      × (o .state .board .core .lost .closed ≡ s .board .core .lost .closed)
+      × AllStay (s .board .core) (o .state .board .core) besidesLost
   pub lostToClosed : o .answer .fate ≡ 3
       → (stored (o .state) ≡ stored s)
-      × (o .state .board .core ≡ withLost (record { full = s .board .core .lost .full; closed = true }) (s .board .core))
+      × (o .state .board .core .lost .full ≡ s .board .core .lost .full)
+      × (o .state .board .core .lost .closed ≡ true)
+      × AllStay (s .board .core) (o .state .board .core) besidesLost
   pub lostRoom : o .answer .fate ≢ 1 → SameRoom s (o .state)
   pub size : o .state .board .size ≡ s .board .size
 

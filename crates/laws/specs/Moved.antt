@@ -12,13 +12,13 @@ use lib.ListN.{length, getD, take, drop}
 use Rattle.laws.specs.Types.{Board, Event, powerUp, write, read, signal, Signal, tick, outside, trigger, passed, failed, settled}
 use Rattle.rules.specs.Bits.{bit}
 use Rattle.rules.specs.Record.{State, stored, levelSpan}
-use Rattle.rules.specs.Parts.{withBurst, withLoad, withOutputs}
 use Rattle.rules.specs.Clocks.{targets}
 use Rattle.rules.specs.Refusals.{refusal}
 use Rattle.rules.specs.Step.{Outcome, step}
 use Rattle.rules.specs.Laws.Soundness.{Sound}
 use Rattle.rules.specs.Laws.Refused.{Nothing, TickAccepted, ClockAccepted}
 use Rattle.rules.specs.Laws.Closed.{Closed}
+use Rattle.rules.specs.Laws.Stays.{Part, power, options, control, mode, calibration, clock, lost, mask, AllStay}
 
 -- ---- Words
 
@@ -100,6 +100,10 @@ Idle-nothing =
     → ¬ ReadyToMove s
     → Nothing s (step s (signal x))
 
+-- all but burst, load, cursor and levels
+abbrev pub besidesMoved : List Part
+besidesMoved = power ∷ options ∷ control ∷ mode ∷ calibration ∷ clock ∷ lost ∷ mask ∷ []
+
 pub record Moves (s : State) (o : Outcome) : Type 0 where
   pub whole : o .answer .moved ≡ groupSize (s .board)
   -- the stored list after is the one before without its first `moved` values ..
@@ -116,15 +120,8 @@ pub record Moves (s : State) (o : Outcome) : Type 0 where
   pub single : s .board .core .control .simultaneous ≡ false
       → o .state .board .core .outputs .cursor ≡ getD (targets (s .board .core)) 0 0 + 1
   pub group : s .board .core .control .simultaneous ≡ true → o .state .board .core .outputs .cursor ≡ 0
-  -- and no more: but for burst, load, cursor and levels the core is as it was, and so is the size
-  pub rest : o .state .board .core
-      ≡ withBurst (o .state .board .core .burst)
-      (withLoad (o .state .board .core .load)
-      (withOutputs (record {
-        mask = s .board .core .outputs .mask;
-        cursor = o .state .board .core .outputs .cursor;
-        levels = o .state .board .core .outputs .levels;
-      }) (s .board .core)))
+  -- and no more; the size neither
+  pub stays : AllStay (s .board .core) (o .state .board .core) besidesMoved
   pub size : o .state .board .size ≡ s .board .size
 
 -- The twenty levels are twenty: the record's array has no other length.

@@ -44,6 +44,13 @@ pub record LeftThere (s : State) (o : Outcome) : Type 0 where
   pub fewer : ¬ Closed (s .board .core) → o .state .board .ring .count + o .answer .moved ≡ s .board .ring .count
   pub same : ¬ Closed (s .board .core) → o .state .memory ≡ s .memory
   pub asMany : Closed (s .board .core) → o .state .board .ring .count ≡ s .board .ring .count
+  -- closed: the i-th value that moved stands again i places on from where the next value is stored ..
+  pub again : Closed (s .board .core) → (i : ℕ) → i < o .answer .moved
+      → entry (o .state) ((s .board .ring .first + s .board .ring .count + i) % depth (s .board)) ≡ getD (stored s) i 0
+  -- .. and every other entry is as it was
+  pub beside : Closed (s .board .core) → (j : ℕ)
+      → ((i : ℕ) → i < o .answer .moved → j ≢ (s .board .ring .first + s .board .ring .count + i) % depth (s .board))
+      → entry (o .state) j ≡ entry s j
 
 abbrev pub Clock-place : Type 0
 Clock-place =

@@ -10,7 +10,7 @@ ghost use Rattle.rules.specs.Refusals.{inRange, endsNothing, tooShort, refusal}
 ghost use lib.Dec.{eqb};
 ghost use Rattle.rules.specs.declared.Board.{Board};
 ghost use Rattle.rules.specs.declared.Event.the-variants.{PowerUp as powerUp};
-ghost use Rattle.rules.specs.Laws.Own.{ownWrite, ownNumber};
+ghost use Rattle.rules.specs.Own.{ownWrite, ownNumber};
 ghost use Rattle.rules.specs.Laws.Refusals.{Ordinary};
 use record::depth;
 use rules::Board;

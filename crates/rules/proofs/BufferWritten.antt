@@ -13,6 +13,7 @@ use Rattle.rules.specs.Play.{play}
 use Rattle.rules.specs.Place.{place}
 use Rattle.rules.specs.Size.{codeOf, sizeAfter}
 use Rattle.rules.specs.Step.{played}
+use Rattle.rules.specs.Laws.Stays.{all, _also_}
 use Rattle.rules.specs.Laws.Written.{none, next, BufferWritten, Buffer-written}
 use Rattle.rules.proofs.Choice.{either, cond-apply}
 use Rattle.rules.proofs.Steps.{placeOf}
@@ -51,7 +52,7 @@ buffer-after s v q =
       alreadyOpened = λ a b c. rw (a, b, c);
       keeps = λ a. (rw a, rw a, rw a);
       memory = either (λ (o : Op). (place (depth (s .board)) o (placeOf s)) .memory ≡ s .memory) (bit 11 v) refl refl;
-      rest = refl;
+      stays = refl also refl also refl also refl also refl also refl also refl also all;
     }
 
 pub buffer-written : Buffer-written

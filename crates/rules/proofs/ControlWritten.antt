@@ -13,6 +13,7 @@ use Rattle.rules.specs.Play.{play}
 use Rattle.rules.specs.Place.{place}
 use Rattle.rules.specs.Size.{codeOf, sizeAfter}
 use Rattle.rules.specs.Laws.Refusals.{Calibrating, Given, written}
+use Rattle.rules.specs.Laws.Stays.{all, _also_}
 use Rattle.rules.specs.Laws.Written.{none, next, ControlWritten, Control-written}
 use Rattle.rules.proofs.Choice.{cases, not-true, not-false}
 use Rattle.rules.proofs.Refusals.{refusal-exactly}
@@ -62,7 +63,7 @@ control-after s v r e q =
       unturned = cursor-unturned _ (bit 7 v) _;
       calibrates = λ a. rw a;
       uncalibrated = λ a. rw a;
-      rest = refl;
+      stays = refl also refl also refl also refl also refl also refl also refl also refl also all;
       room = record { size = rw e; ring = refl; memory = refl };
     }
 

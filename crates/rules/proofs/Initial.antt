@@ -5,9 +5,8 @@ use mathlib.Core.Path.{_≡_, refl, _∙_}
 use mathlib.Core.Bool.{true, false, not}
 use mathlib.Core.List.{List, append-assoc}
 use native.Mathlib.Omega.{arith}
-use lib.Dec.{eqb, leb}
-use lib.ListN.{getD, replicate}
-use borrow.Author.Tests.{eqb-true, lt-ltb, le-ltb, lt-leb}
+use lib.Dec.{leb}
+use borrow.Author.Tests.{lt-ltb, le-ltb, lt-leb}
 use Rattle.rules.specs.Types.{Settings, Options, Size, Board, powerUp, write}
 use Rattle.rules.specs.Bits.{bit, bitsOf, flag, number}
 use Rattle.rules.specs.Record.{State, activeSize, channels, values, stored, optionsInRange}
@@ -20,9 +19,9 @@ use Rattle.rules.specs.Size.{initialises, codeOf, sizeAfter}
 use Rattle.rules.specs.Interrupt.{requestAfter}
 use Rattle.rules.specs.Refusals.{firstOf, inRange, standing, rows, refusal}
 use Rattle.rules.specs.Step.{step}
-use Rattle.rules.specs.Laws.Initial.{Fresh, Power-up-fresh, Initialise-fresh, Unpowered-zero}
+use Rattle.rules.specs.Laws.Initial.{Fresh, Power-up-fresh, Initialise-fresh, fields, Unpowered-zero}
 use Rattle.rules.proofs.Open.{rules-open}
-use Rattle.rules.proofs.Choice.{cond-zero, and-both, not-not, upTo, upTo-at}
+use Rattle.rules.proofs.Choice.{cond-zero, and-both, not-not}
 use Rattle.rules.proofs.Sizes.{size-pos}
 use Rattle.rules.proofs.Soundness.{SoundOptions, options-to, sound-core}
 use Rattle.rules.proofs.Refusals.{refusal-stands}
@@ -127,12 +126,5 @@ initialise-fresh s v h e =
 -- ---- The unpowered record
 
 pub unpowered-zero : Unpowered-zero
-unfolding rules-open upTo
-unpowered-zero =
-    record {
-      levels = λ k h. eqb-true _ _ (upTo-at 20 (λ j. eqb (getD (replicate 20 0) j 1) 0) refl k h);
-      registers = (refl, refl, refl, refl, refl);
-      fitted = refl;
-      ring = refl;
-      unsound = refl;
-    }
+unfolding rules-open fields
+unpowered-zero = record { all = refl; unsound = refl }

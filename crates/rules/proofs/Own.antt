@@ -2,7 +2,7 @@
 use mathlib.Core.Path.{refl}
 use Rattle.rules.specs.Types.{powerUp, write, read, signal}
 use Rattle.rules.specs.Refusals.{firstOf, standing, rows, refusal}
-use Rattle.rules.specs.Laws.Own.{ownWrite, ownNumber, Refusal-own}
+use Rattle.rules.specs.Own.{ownWrite, ownNumber, Refusal-own}
 
 pub refusal-own : Refusal-own
 unfolding refusal rows standing firstOf ownNumber ownWrite

@@ -2,20 +2,25 @@
 use Prim.Native.Nat.{ℕ}
 use mathlib.Core.Path.{_≡_, refl, _∙_}
 use mathlib.Core.Logic.{inl, inr}
-use mathlib.Core.Bool.{true, not, _&&_, _||_}
+use mathlib.Core.Bool.{true, not, _&&_, _||_, and-false}
 use Rattle.rules.specs.Types.{Board, powerUp, write, read, signal, Signal, tick, outside, trigger, passed, failed, settled}
+use Rattle.rules.specs.Bits.{bitsOf}
 use Rattle.rules.specs.Record.{State}
+use Rattle.rules.specs.Registers.{controlBits, registers, readFrom}
 use Rattle.rules.specs.Clocks.{only, clockReady, tickAccepted, clockAccepted, triggerAccepted, onTick, onOutside, onTrigger}
 use Rattle.rules.specs.Play.{onSignal, play}
 use Rattle.rules.specs.Place.{place}
 use Rattle.rules.specs.Size.{initialises, sizeAfter}
 use Rattle.rules.specs.Interrupt.{requestHeld}
 use Rattle.rules.specs.Step.{refused, reading, played, boardBefore, done}
-use Rattle.rules.specs.Laws.Refused.{Nothing, TickAccepted, ClockAccepted, TriggerAccepted, Accepted, Refused-nothing, Unaccepted-nothing, Register-none, Read-nothing, Trigger-starts}
+use Rattle.rules.specs.Laws.Refused.{Nothing, TickAccepted, ClockAccepted, TriggerAccepted, Accepted, Refused-nothing, Unaccepted-nothing, Register-none, Read-nothing, TriggerStarted, Trigger-starts}
+use Rattle.rules.specs.Laws.Stays.{all, _also_}
 use Rattle.rules.proofs.Choice.{cond-false, and-both, or-cases, not-true, not-both}
 use Rattle.rules.proofs.States.{clock-ready-exactly}
 use Rattle.rules.proofs.Nothing.{request-kept, only-nothing}
 use Rattle.rules.proofs.Steps.{step-done, step-cases, refusal-answered}
+use Rattle.rules.proofs.Readings.{bit-number}
+use Rattle.rules.proofs.Played.{played-after}
 
 -- ---- Refused
 
@@ -93,7 +98,14 @@ read-nothing s o h = rw (step-done s (read o) h) (refl, rw (request-kept (read o
 -- ---- An accepted trigger
 
 pub trigger-starts : Trigger-starts
-unfolding done boardBefore play onSignal onTrigger place sizeAfter
+unfolding play onSignal onTrigger place sizeAfter registers readFrom controlBits bitsOf
 trigger-starts s h k =
-    let t = trigger-from (s .board) k in
-    rw (step-done s (signal trigger) h) (rw t, record { size = refl; ring = refl; memory = refl })
+    played-after (TriggerStarted s) s (signal trigger) (onTrigger (s .board .core)) h refl (λ q.
+    rw (trigger-from (s .board) k)
+    record {
+      running = refl;
+      d1 = bit-number _ 1 ∙ and-false (s .board .core .control .bursts);
+      d2 = bit-number _ 2;
+      stays = refl also refl also refl also refl also refl also refl also refl also refl also refl also refl also refl also all;
+      room = record { size = refl; ring = refl; memory = refl };
+    })

@@ -1,10 +1,13 @@
--- Runs: their beginnings.
+-- Runs: what they start from, and their beginnings.
 use Prim.Native.Nat.{zero, suc}
 use mathlib.Core.Path.{refl, ap}
 use mathlib.Core.List.{List, [], _∷_}
 use Rattle.rules.specs.Step.{Outcome, step}
 use Rattle.rules.specs.Session.{outcomes, after}
-use Rattle.rules.specs.Laws.Runs.{After-append, Outcomes-append, Outcomes-take}
+use Rattle.rules.specs.Laws.Runs.{Start-lent, After-append, Outcomes-append, Outcomes-take}
+
+pub start-lent : Start-lent
+start-lent m = record { board = refl; memory = refl }
 
 pub after-append : After-append
 unfolding after

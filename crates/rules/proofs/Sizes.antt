@@ -1,7 +1,9 @@
--- The active size is at most the depth and grows with both codes; what that says of a full buffer. No kit has more than 20 channels.
-use Prim.Native.Nat.{ℕ, zero, _^_, _≤_, _<_, min}
-use mathlib.Core.Path.{_≡_}
+-- The laws of sizes (specs/Laws/Sizes). The active size is at most the depth and grows with both codes; what that says of a full buffer.
+-- No kit has more than 20 channels.
+use Prim.Native.Nat.{ℕ, zero, _*_, _^_, _≤_, _<_, min}
+use mathlib.Core.Path.{_≡_, refl, ap}
 use mathlib.Core.Bool.{false}
+use native.Mathlib.Nat.{pow-suc, min-eq-left, min-eq-right}
 use native.Mathlib.Omega.{arith}
 use borrow.Author.Tests.{leb-false, lt-leb}
 use lib.Dec.{eqb}
@@ -9,7 +11,20 @@ use lib.Pow.{pow-pos, pow-mono}
 use Rattle.rules.specs.Types.{Size}
 use Rattle.rules.specs.Record.{depthOf, activeSize, channels}
 use Rattle.rules.specs.Flags.{isFull}
+use Rattle.rules.specs.Laws.Sizes.{Depth-doubles, Size-lesser}
 use Rattle.rules.proofs.Choice.{either}
+
+pub depth-doubles : Depth-doubles
+unfolding depthOf
+depth-doubles = record { least = refl; doubles = λ d. rw pow-suc (omega arith) }
+
+pub size-lesser : Size-lesser
+unfolding depthOf activeSize
+size-lesser z =
+    record {
+      written = λ h. ap (λ (m : ℕ). 8 * 2 ^ m) (min-eq-left h);
+      fitted = λ h. ap (λ (m : ℕ). 8 * 2 ^ m) (min-eq-right h);
+    }
 
 pub depth-pos : (d : ℕ) → zero < depthOf d
 unfolding depthOf

@@ -1,26 +1,31 @@
 -- Writes to 04h, 08h and 1Ch, a calibration's end and a settled event.
 use Prim.Native.Nat.{ℕ, _%_, _^_, _<_}
-use mathlib.Core.Path.{_≡_, refl, _∙_}
-use mathlib.Core.Bool.{and-false, or-true, or-false}
+use mathlib.Core.Path.{_≡_, refl, sym, _∙_}
+use mathlib.Core.Bool.{Bool, true, false, _||_, and-true, and-false, or-true, or-false}
 use native.Mathlib.Nat.{mod-lt, mod-eq-of-lt, mod-mod, le-trans}
 use native.Mathlib.Omega.{arith}
 use borrow.Author.Tests.{eq-eqb, ne-eqb}
 use lib.Pow.{pow-pos, pow-mono}
-use Rattle.rules.specs.Types.{Core, write, signal, Signal, passed, failed, settled}
-use Rattle.rules.specs.Bits.{number}
+use Rattle.rules.specs.Types.{Board, Clock, Core, Event, write, signal, passed, failed, settled}
+use Rattle.rules.specs.Bits.{bit, bitsOf, number}
 use Rattle.rules.specs.Record.{State, channels}
-use Rattle.rules.specs.Clocks.{only}
-use Rattle.rules.specs.Registers.{maskBits, rateBits, adjustBits, registers, readFrom}
+use Rattle.rules.specs.Parts.{withClock}
+use Rattle.rules.specs.Registers.{controlBits, bufferBits, maskBits, rateBits, adjustBits, registers, readFrom, readAt}
 use Rattle.rules.specs.Writes.{writeMask, writeRate, writeAdjust, onWrite}
 use Rattle.rules.specs.Play.{calibrationEnds, settles, onSignal, play}
 use Rattle.rules.specs.Place.{place}
 use Rattle.rules.specs.Size.{codeOf, sizeAfter}
-use Rattle.rules.specs.Refusals.{refusal}
-use Rattle.rules.specs.Step.{played, step}
-use Rattle.rules.specs.Laws.Written.{Became, MaskWritten, Mask-written, RateWritten, Rate-written, AdjustWritten, Adjust-written, Passed-calibrated, Failed-calibrated, Settled-clock}
+use Rattle.rules.specs.Laws.Stays.{AllStay, all, _also_}
+use Rattle.rules.specs.Laws.Written.{MaskWritten, Mask-written, besidesClock, RateWritten, Rate-written, AdjustWritten, Adjust-written, CalibrationEnded, Passed-calibrated, Failed-calibrated, ClockSettled, Settled-clock}
 use Rattle.rules.proofs.Sizes.{channels-le}
-use Rattle.rules.proofs.Readings.{flag-bit, number-bitsOf, number-field}
-use Rattle.rules.proofs.Played.{played-after}
+use Rattle.rules.proofs.Readings.{bit-number, flag-bit, number-bitsOf, number-field}
+use Rattle.rules.proofs.Played.{afterPlay, played-after}
+
+-- ---- What stays
+
+-- a clock put anew leaves all else
+clock-alone : (c : Core) (x : Clock) → AllStay c (withClock x c) besidesClock
+clock-alone c x = refl also refl also refl also refl also refl also refl also refl also refl also refl also refl also refl also all
 
 -- ---- 04h
 
@@ -36,8 +41,7 @@ mask-written s v h =
       stored = number-bitsOf 20 _ ∙ mod-eq-of-lt (mask-fits (s .board .core .options .kit) v);
       mask = refl;
       cursor = refl;
-      levels = refl;
-      rest = refl;
+      stays = refl also refl also refl also refl also refl also refl also refl also refl also refl also refl also all;
       room = record { size = refl; ring = refl; memory = refl };
     })
 
@@ -51,8 +55,10 @@ rate-written s v h =
       stored = number-bitsOf 16 _ ∙ mod-mod v 0x10000;
       divisor = refl;
       adjust = refl;
+      nclk = refl;
+      alt = refl;
       settling = refl;
-      rest = refl;
+      stays = clock-alone (s .board .core) _;
       room = record { size = refl; ring = refl; memory = refl };
     })
 
@@ -70,25 +76,68 @@ adjust-written s v h =
       starts = λ a d. rw (a, ne-eqb (v % 0x200) (s .board .core .clock .nclk) d, or-true);
       same = λ a. rw (eq-eqb (v % 0x200) (s .board .core .clock .nclk) a, and-false, or-false);
       inner = λ a. rw (a, or-false);
-      rest = refl;
+      stays = clock-alone (s .board .core) _;
       room = record { size = refl; ring = refl; memory = refl };
     })
 
 -- ---- Calibration and settling
 
--- a signal whose play is a core alone
-became : (s : State) (x : Signal) (c : Core) → refusal s (signal x) ≡ 0 → played s (signal x) ≡ only c → Became s c ((step s (signal x)) .state)
-unfolding place sizeAfter
-became s x c h e = played-after (Became s c) s (signal x) (only c) h e (λ q. record { core = refl; room = record { size = refl; ring = refl; memory = refl } })
+-- a calibration's end: what a pass and a failure share, and D14
+ended : (s : State) (e : Event) (failure q : Bool) → sizeAfter (s .board .size) e ≡ s .board .size
+    → let s′ : State = afterPlay s e (calibrationEnds (s .board .core) failure) q in
+    CalibrationEnded s s′ × (bit 14 (readAt (s′ .board) 0x00) ≡ s .board .core .calibration .failed || failure)
+unfolding calibrationEnds place registers readFrom controlBits bitsOf
+ended s e failure q h = (
+  record {
+    d13 = bit-number _ 13;
+    calibrated = refl;
+    stays = refl also refl also refl also refl also refl also refl also refl also refl also refl also refl also refl also all;
+    room = record { size = h; ring = refl; memory = refl };
+  },
+  bit-number _ 14,
+)
+
+-- D14 reads the failure that the record holds
+d14-read : (s : State) → bit 14 (readAt (s .board) 0x00) ≡ s .board .core .calibration .failed
+unfolding registers readFrom controlBits bitsOf
+d14-read s = bit-number (controlBits (s .board)) 14
 
 pub passed-calibrated : Passed-calibrated
-unfolding play onSignal calibrationEnds
-passed-calibrated s h = became s passed _ h (rw or-false)
+unfolding play onSignal sizeAfter
+passed-calibrated s h =
+    played-after
+    (λ s′. CalibrationEnded s s′ × (bit 14 (readAt (s′ .board) 0x00) ≡ bit 14 (readAt (s .board) 0x00)))
+    s (signal passed) (calibrationEnds (s .board .core) false) h refl
+    (λ q. let x = ended s (signal passed) false q refl in (x .0, x .1 ∙ rw or-false (sym (d14-read s))))
 
 pub failed-calibrated : Failed-calibrated
-unfolding play onSignal calibrationEnds
-failed-calibrated s h = became s failed _ h (rw or-true)
+unfolding play onSignal sizeAfter
+failed-calibrated s h =
+    played-after
+    (λ s′. CalibrationEnded s s′ × (bit 14 (readAt (s′ .board) 0x00) ≡ true))
+    s (signal failed) (calibrationEnds (s .board .core) true) h refl
+    (λ q. let x = ended s (signal failed) true q refl in (x .0, x .1 ∙ rw or-true))
+
+-- D6, with nothing settling, by D4
+ready-after : (b : Board) → b .core .clock .settling ≡ false → b .core .calibration .running ≡ false
+    → bit 6 (readAt b 0x0C) ≡ b .core .mode .external
+unfolding registers readFrom bufferBits bitsOf
+ready-after b h k = bit-number (bufferBits b) 6 ∙ rw (h, k, and-true, and-true)
+
+d4-read : (b : Board) → bit 4 (readAt b 0x0C) ≡ b .core .mode .external
+unfolding registers readFrom bufferBits bitsOf
+d4-read b = bit-number (bufferBits b) 4
 
 pub settled-clock : Settled-clock
-unfolding play onSignal settles
-settled-clock s h = became s settled _ h refl
+unfolding play onSignal settles place sizeAfter
+settled-clock s h =
+    played-after (ClockSettled s) s (signal settled) (settles (s .board .core)) h refl (λ q.
+    record {
+      ready = λ r. ready-after _ refl r ∙ sym (d4-read (s .board));
+      settling = refl;
+      divisor = refl;
+      nclk = refl;
+      alt = refl;
+      stays = clock-alone (s .board .core) _;
+      room = record { size = refl; ring = refl; memory = refl };
+    })

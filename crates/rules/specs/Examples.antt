@@ -1,11 +1,12 @@
 -- Sessions beside 01's bench: a row for each rule that neither its cases nor a law of this crate reach (`Examples`; its proof is in
 -- proofs/Bench.antt).
+use mathlib.Core.Bool.{true}
 use mathlib.Core.List.{List, [], _∷_}
-use lib.ListN.{replicate, take}
-use Rattle.rules.specs.Types.{Event, powerUp, signal, trigger}
+use lib.ListN.{replicate}
+use Rattle.rules.specs.Types.{Event, powerUp, read, signal, trigger}
 use Rattle.rules.specs.Record.{State, stateOf}
 use Rattle.rules.specs.Session.{after}
-use Rattle.rules.specs.Bench.{on, bcr, mask, bor, load, bcr?, bor?, clk, Look, bench, bitRead, moved, held, _shows_, Case, AllCases}
+use Rattle.rules.specs.Bench.{on, bcr, mask, bor, load, bcr?, bor?, clk, Look, bench, seen, isRead, bitRead, moved, levels, held, _shows_, Case, AllCases}
 
 -- ---- Events and looks
 
@@ -13,15 +14,23 @@ use Rattle.rules.specs.Bench.{on, bcr, mask, bor, load, bcr?, bor?, clk,
 abbrev pub shallow : Event
 shallow = powerUp (record { fitted = 0; range = 0; filter = 0; kit = 2; firmware = 0 })
 
--- at the end: the first two entries of the memory
+-- at the end: the sixteen entries of the memory
 unfoldable pub entries : Look
-entries es = take 2 ((after bench es) .memory)
+entries es = (after bench es) .memory
 
 -- the same after one more tick, for which every entry of the memory is made 20005h: bit 17, and the value 5
 unfoldable pub entriesOverJunk : Look
 entriesOverJunk es =
     let s : State = after bench es in
-    take 2 ((after (stateOf (s .board) (replicate 16 0x20005)) (clk ∷ [])) .memory)
+    (after (stateOf (s .board) (replicate 16 0x20005)) (clk ∷ [])) .memory
+
+-- what each read finds
+unfoldable pub readings : Look
+readings es = seen isRead (λ o. o .answer .register) bench es
+
+-- the values moved by each event
+unfoldable pub allMoved : Look
+allMoved es = seen (λ e. true) (λ o. o .answer .moved) bench es
 
 -- ---- The table
 
@@ -56,12 +65,49 @@ examples =
     -- "Only those 17 bits are used or written"
     ∷ record {
       session = on ∷ load 0xFFFFFFFF ∷ [];
-      sights = entries shows (0x1FFFF ∷ 0 ∷ []) ∷ [];
+      sights = entries shows (0x1FFFF ∷ replicate 15 0) ∷ [];
     }
-    -- "the rest of a written entry is 0", a recirculated value's too
+    -- "the rest of a written entry is 0", a recirculated value's too; and no other entry is written
     ∷ record {
       session = on ∷ mask 1 ∷ load 5 ∷ bor 0x120 ∷ [];
-      sights = entriesOverJunk shows (0x20005 ∷ 0x5 ∷ []) ∷ [];
+      sights = entriesOverJunk shows (0x20005 ∷ 0x5 ∷ replicate 14 0x20005) ∷ [];
+    }
+    -- "A value is stored at (first + count) mod depth", "Entries from depth upward are never touched": a depth of 8, the ninth value
+    -- after one has left
+    ∷ record {
+      session = shallow ∷ bor 0x20 ∷ load 1 ∷ load 2 ∷ load 3 ∷ load 4 ∷ load 5 ∷ load 6 ∷ load 7 ∷ load 8 ∷ clk ∷ load 9 ∷ [];
+      sights = entries shows (9 ∷ 2 ∷ 3 ∷ 4 ∷ 5 ∷ 6 ∷ 7 ∷ 8 ∷ replicate 8 0) ∷ [];
+    }
+    -- "10h is firmware in D11..0, range D17..16, filter D19..18, kit D21..20", with all of them different
+    ∷ record {
+      session = powerUp (record { fitted = 1; range = 1; filter = 2; kit = 0; firmware = 0x123 }) ∷ read 0x10 ∷ [];
+      sights = readings shows (0x90123 ∷ []) ∷ [];
+    }
+    -- the software clock sees the bits just written (DECISIONS 15): they enable it, and they disable it
+    ∷ record {
+      session = on ∷ mask 1 ∷ load 5 ∷ bor 0xB0 ∷ [];
+      sights = allMoved shows (0 ∷ 0 ∷ 0 ∷ 1 ∷ []) ∷ [];
+    }
+    ∷ record {
+      session = on ∷ mask 1 ∷ bor 0x30 ∷ load 5 ∷ bor 0x90 ∷ [];
+      sights = allMoved shows (0 ∷ 0 ∷ 0 ∷ 0 ∷ 0 ∷ []) ∷ [];
+    }
+    -- "else to the lowest active one": past channel 19 the turn begins again at channel 01
+    ∷ record {
+      session = on ∷ mask 0x80002 ∷ bor 0x20 ∷ load 1 ∷ load 2 ∷ load 3 ∷ clk ∷ clk ∷ clk ∷ [];
+      sights = levels shows (0x8000 ∷ 3 ∷ 0x8000 ∷ []) ∷ [];
+    }
+    -- initialise and loads answer moved 0, with values stored and channels active
+    ∷ record {
+      session = on ∷ load 5 ∷ load 6 ∷ bcr 0x8000 ∷ [];
+      sights = allMoved shows (0 ∷ 0 ∷ 0 ∷ 0 ∷ []) ∷ [];
+    }
+    -- the overflow flags stay under clocks and loads, whatever becomes of these: D16 set by the ninth load, D17 by the next into the
+    -- closed buffer; read after a clock that recirculates, after one that discards and a load that is stored, and after another loss
+    ∷ record {
+      session = on ∷ bor 0x0 ∷ load 1 ∷ load 2 ∷ load 3 ∷ load 4 ∷ load 5 ∷ load 6 ∷ load 7 ∷ load 8 ∷ load 9
+          ∷ bor 0x10120 ∷ load 10 ∷ clk ∷ bor? ∷ bor 0x30020 ∷ clk ∷ load 11 ∷ bor? ∷ load 12 ∷ bor? ∷ [];
+      sights = bitRead 16 shows (1 ∷ 1 ∷ 1 ∷ []) ∷ bitRead 17 shows (1 ∷ 1 ∷ 1 ∷ []) ∷ [];
     }
     ∷ []
 

@@ -18,3 +18,4 @@ pub mod Session
 pub mod Bench
 pub mod Examples
 pub mod Laws
+pub mod Own

@@ -1,15 +1,14 @@
 -- What initialise and power-up leave: all eight readings for every kit, the levels, the stored values, the request.
-use Prim.Native.Nat.{ℕ, _+_, _*_, _<_}
+use Prim.Native.Nat.{ℕ, _+_, _*_}
 use mathlib.Core.Path.{_≡_}
 use mathlib.Core.Bool.{true, false}
-use mathlib.Core.List.{List, []}
-use lib.ListN.{getD, replicate}
+use mathlib.Core.List.{List, [], _∷_}
+use lib.ListN.{replicate}
 use Rattle.rules.specs.Types.{Settings, Options, Board, powerUp, write}
-use Rattle.rules.specs.Bits.{bit}
+use Rattle.rules.specs.Bits.{bit, flag}
 use Rattle.rules.specs.Record.{State, stored, sound, unpowered}
 use Rattle.rules.specs.Parts.{noBurst}
 use Rattle.rules.specs.Registers.{readAt}
-use Rattle.rules.specs.Play.{optionsOf}
 use Rattle.rules.specs.Refusals.{refusal}
 use Rattle.rules.specs.Step.{step}
 
@@ -44,12 +43,28 @@ pub record Fresh (o : Options) (d : ℕ) (m : List ℕ) (s : State) : Type 0 whe
   -- 01: "Initialise just sets it."
   pub request : s .board .request ≡ true
 
--- 01: "The unpowered record is all zero.": its numbers, and so it is not sound.
+-- every number and flag of a record, one after another
+unfoldable pub fields : Board → List ℕ
+fields b =
+    flag (b .core .powered)
+    ∷ b .core .options .range ∷ b .core .options .filter ∷ b .core .options .kit ∷ b .core .options .firmware
+    ∷ flag (b .core .control .bursts) ∷ flag (b .core .control .ground) ∷ flag (b .core .control .binary)
+    ∷ flag (b .core .control .differential) ∷ flag (b .core .control .barred) ∷ flag (b .core .control .simultaneous)
+    ∷ b .core .control .selection
+    ∷ flag (b .core .mode .external) ∷ flag (b .core .mode .enabled) ∷ flag (b .core .mode .circular)
+    ∷ flag (b .core .calibration .running) ∷ flag (b .core .calibration .failed) ∷ flag (b .core .calibration .calibrated)
+    ∷ b .core .clock .divisor ∷ b .core .clock .nclk ∷ flag (b .core .clock .alt) ∷ flag (b .core .clock .settling)
+    ∷ flag (b .core .burst .running) ∷ flag (b .core .burst .software)
+    ∷ flag (b .core .load .pending) ∷ flag (b .core .load .opened)
+    ∷ flag (b .core .lost .full) ∷ flag (b .core .lost .closed)
+    ∷ b .size .fitted ∷ b .size .code
+    ∷ flag (b .request)
+    ∷ b .ring .first ∷ b .ring .count
+    ∷ b .core .outputs .mask ∷ b .core .outputs .cursor ∷ b .core .outputs .levels
+
+-- 01: "The unpowered record is all zero.": 35 numbers and flags, and twenty levels; and so it is not sound
 pub record Zero (b : Board) : Type 0 where
-  pub levels : (k : ℕ) → k < 20 → getD (b .core .outputs .levels) k 1 ≡ 0
-  pub registers : (readAt b 0x00 ≡ 0) × (readAt b 0x04 ≡ 0) × (readAt b 0x08 ≡ 0) × (readAt b 0x10 ≡ 0) × (readAt b 0x1C ≡ 0)
-  pub fitted : b .size ≡ record { fitted = 0; code = 0 }
-  pub ring : b .ring ≡ record { first = 0; count = 0 }
+  pub all : fields b ≡ replicate 55 0
   pub unsound : sound b ≡ false
 
 abbrev pub Unpowered-zero : Type 0
@@ -60,7 +75,11 @@ abbrev pub Power-up-fresh : Type 0
 Power-up-fresh =
     (s : State) (x : Settings)
     → refusal s (powerUp x) ≡ 0
-    → Fresh (optionsOf x) (x .fitted) (s .memory) ((step s (powerUp x)) .state)
+    → Fresh
+    (record { range = x .range; filter = x .filter; kit = x .kit; firmware = x .firmware })
+    (x .fitted)
+    (s .memory)
+    ((step s (powerUp x)) .state)
 
 -- 01: "A BCR write with D15 set initialises and ignores its other bits."
 abbrev pub Initialise-fresh : Type 0

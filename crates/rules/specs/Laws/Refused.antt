@@ -3,12 +3,14 @@ use Prim.Native.Nat.{ℕ}
 use mathlib.Core.Path.{_≡_}
 use mathlib.Core.Logic.{_≢_, _⊎_}
 use mathlib.Core.Bool.{true, false}
+use mathlib.Core.List.{[], _∷_}
 use Rattle.rules.specs.Types.{Board, Event, powerUp, write, read, signal, Signal, tick, outside, trigger, passed, failed, settled}
 use Rattle.rules.specs.Record.{State}
-use Rattle.rules.specs.Parts.{withBurst}
+use Rattle.rules.specs.Bits.{bit}
 use Rattle.rules.specs.Registers.{readAt}
 use Rattle.rules.specs.Refusals.{refusal}
 use Rattle.rules.specs.Step.{Outcome, step}
+use Rattle.rules.specs.Laws.Stays.{power, options, control, mode, calibration, clock, load, lost, mask, cursor, levels, AllStay}
 
 -- the answers but the refusal number are 0, record and memory are those given
 pub record Nothing (s : State) (o : Outcome) : Type 0 where
@@ -89,11 +91,18 @@ Read-nothing =
     → refusal s (read o) ≡ 0
     → ((step s (read o)) .answer .register ≡ readAt (s .board) o) × ((step s (read o)) .state ≡ s)
 
--- An accepted trigger starts a burst that software did not start, and does nothing else but to the request.
+-- An accepted trigger starts a burst that software did not start (D1 and D2 read 0), and does nothing else but to the request.
+pub record TriggerStarted (s s′ : State) : Type 0 where
+  pub running : s′ .board .core .burst .running ≡ true
+  pub d1 : bit 1 (readAt (s′ .board) 0x00) ≡ false
+  pub d2 : bit 2 (readAt (s′ .board) 0x00) ≡ false
+  pub stays : AllStay (s .board .core) (s′ .board .core)
+      (power ∷ options ∷ control ∷ mode ∷ calibration ∷ clock ∷ load ∷ lost ∷ mask ∷ cursor ∷ levels ∷ [])
+  pub room : SameRoom s s′
+
 abbrev pub Trigger-starts : Type 0
 Trigger-starts =
     (s : State)
     → refusal s (signal trigger) ≡ 0
     → TriggerAccepted (s .board)
-    → ((step s (signal trigger)) .state .board .core ≡ withBurst (record { running = true; software = false }) (s .board .core))
-    × SameRoom s ((step s (signal trigger)) .state)
+    → TriggerStarted s ((step s (signal trigger)) .state)

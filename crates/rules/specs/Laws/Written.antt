@@ -6,14 +6,15 @@ use mathlib.Core.Path.{_≡_}
 use mathlib.Core.Logic.{_≢_}
 use mathlib.Core.Bool.{true, false, _&&_}
 use mathlib.Core.List.{List, [], _∷_}
-use Rattle.rules.specs.Types.{Board, Core, write, signal, passed, failed, settled}
+use Rattle.rules.specs.Types.{Board, write, signal, passed, failed, settled}
 use Rattle.rules.specs.Bits.{bit}
 use Rattle.rules.specs.Record.{State, channels}
-use Rattle.rules.specs.Parts.{noBurst, noLoad, withControl, withMode, withCalibration, withClock, withBurst, withLoad, withLost, withOutputs, withCursor}
+use Rattle.rules.specs.Parts.{noBurst, noLoad}
 use Rattle.rules.specs.Registers.{readAt}
 use Rattle.rules.specs.Refusals.{refusal}
 use Rattle.rules.specs.Step.{step}
 use Rattle.rules.specs.Laws.Refused.{SameRoom}
+use Rattle.rules.specs.Laws.Stays.{Part, power, options, control, mode, calibration, clock, burst, load, lost, mask, cursor, levels, AllStay}
 
 abbrev pub wrote : State → ℕ → ℕ → State
 wrote s o v = (step s (write o v)) .state
@@ -43,12 +44,8 @@ pub record ControlWritten (s : State) (v : ℕ) (s′ : State) : Type 0 where
   -- "D13 = 1 starts calibration, clearing D14 and "calibrated""
   pub calibrates : bit 13 v ≡ true → s′ .board .core .calibration ≡ record { running = true; failed = false; calibrated = false }
   pub uncalibrated : bit 13 v ≡ false → s′ .board .core .calibration ≡ s .board .core .calibration
-  -- and no more: but for these the core is as it was
-  pub rest : s′ .board .core
-      ≡ withControl (s′ .board .core .control)
-      (withBurst (s′ .board .core .burst)
-      (withCursor (s′ .board .core .outputs .cursor)
-      (withCalibration (s′ .board .core .calibration) (s .board .core))))
+  -- and no more
+  pub stays : AllStay (s .board .core) (s′ .board .core) (power ∷ options ∷ mode ∷ clock ∷ load ∷ lost ∷ mask ∷ levels ∷ [])
   pub room : SameRoom s s′
 
 abbrev pub Control-written : Type 0
@@ -65,8 +62,8 @@ pub record MaskWritten (s : State) (v : ℕ) (s′ : State) : Type 0 where
   pub stored : readAt (s′ .board) 0x04 ≡ v % 2 ^ channels (s .board .core .options .kit)
   pub mask : s′ .board .core .outputs .mask ≡ v % 2 ^ channels (s .board .core .options .kit)
   pub cursor : s′ .board .core .outputs .cursor ≡ 0
-  pub levels : s′ .board .core .outputs .levels ≡ s .board .core .outputs .levels
-  pub rest : s′ .board .core ≡ withOutputs (s′ .board .core .outputs) (s .board .core)
+  pub stays : AllStay (s .board .core) (s′ .board .core)
+      (power ∷ options ∷ control ∷ mode ∷ calibration ∷ clock ∷ burst ∷ load ∷ lost ∷ levels ∷ [])
   pub room : SameRoom s s′
 
 abbrev pub Mask-written : Type 0
@@ -75,13 +72,19 @@ Mask-written =
     → refusal s (write 0x04 v) ≡ 0
     → MaskWritten s v (wrote s 0x04 v)
 
+-- all but the clock, 08h and 1Ch
+abbrev pub besidesClock : List Part
+besidesClock = power ∷ options ∷ control ∷ mode ∷ calibration ∷ burst ∷ load ∷ lost ∷ mask ∷ cursor ∷ levels ∷ []
+
 -- "08h keeps 16 bits."
 pub record RateWritten (s : State) (v : ℕ) (s′ : State) : Type 0 where
   pub stored : readAt (s′ .board) 0x08 ≡ v % 0x10000
   pub divisor : s′ .board .core .clock .divisor ≡ v % 0x10000
   pub adjust : readAt (s′ .board) 0x1C ≡ readAt (s .board) 0x1C
+  pub nclk : s′ .board .core .clock .nclk ≡ s .board .core .clock .nclk
+  pub alt : s′ .board .core .clock .alt ≡ s .board .core .clock .alt
   pub settling : s′ .board .core .clock .settling ≡ s .board .core .clock .settling
-  pub rest : s′ .board .core ≡ withClock (s′ .board .core .clock) (s .board .core)
+  pub stays : AllStay (s .board .core) (s′ .board .core) besidesClock
   pub room : SameRoom s s′
 
 abbrev pub Rate-written : Type 0
@@ -99,7 +102,7 @@ pub record AdjustWritten (s : State) (v : ℕ) (s′ : State) : Type 0 where
   pub starts : s .board .core .mode .external ≡ true → v % 0x200 ≢ s .board .core .clock .nclk → s′ .board .core .clock .settling ≡ true
   pub same : v % 0x200 ≡ s .board .core .clock .nclk → s′ .board .core .clock .settling ≡ s .board .core .clock .settling
   pub inner : s .board .core .mode .external ≡ false → s′ .board .core .clock .settling ≡ s .board .core .clock .settling
-  pub rest : s′ .board .core ≡ withClock (s′ .board .core .clock) (s .board .core)
+  pub stays : AllStay (s .board .core) (s′ .board .core) besidesClock
   pub room : SameRoom s s′
 
 abbrev pub Adjust-written : Type 0
@@ -136,12 +139,8 @@ pub record BufferWritten (s : State) (v : ℕ) (s′ : State) : Type 0 where
       × (s′ .board .core .burst ≡ s .board .core .burst)
       × (s′ .board .core .outputs ≡ s .board .core .outputs)
   pub memory : s′ .memory ≡ s .memory
-  pub rest : s′ .board .core
-      ≡ withMode (s′ .board .core .mode)
-      (withLost (s′ .board .core .lost)
-      (withLoad (s′ .board .core .load)
-      (withBurst (s′ .board .core .burst)
-      (withCursor (s′ .board .core .outputs .cursor) (s .board .core)))))
+  -- and no more
+  pub stays : AllStay (s .board .core) (s′ .board .core) (power ∷ options ∷ control ∷ calibration ∷ clock ∷ mask ∷ levels ∷ [])
 
 abbrev pub Buffer-written : Type 0
 Buffer-written =
@@ -152,38 +151,40 @@ Buffer-written =
 
 -- ---- Calibration and settling
 
--- the core is c, and nothing else has changed but the request
-pub record Became (s : State) (c : Core) (s′ : State) : Type 0 where
-  pub core : s′ .board .core ≡ c
+-- 01: "A calibration end clears D13, sets "calibrated" and sets D14 on failure." Reading: a pass leaves D14 (DECISIONS 25).
+pub record CalibrationEnded (s s′ : State) : Type 0 where
+  pub d13 : bit 13 (readAt (s′ .board) 0x00) ≡ false
+  pub calibrated : s′ .board .core .calibration .calibrated ≡ true
+  pub stays : AllStay (s .board .core) (s′ .board .core)
+      (power ∷ options ∷ control ∷ mode ∷ clock ∷ burst ∷ load ∷ lost ∷ mask ∷ cursor ∷ levels ∷ [])
   pub room : SameRoom s s′
 
--- 01: "A calibration end clears D13, sets "calibrated" and sets D14 on failure."
 abbrev pub Passed-calibrated : Type 0
 Passed-calibrated =
     (s : State)
     → refusal s (signal passed) ≡ 0
-    → Became s
-    (withCalibration (record { running = false; failed = s .board .core .calibration .failed; calibrated = true }) (s .board .core))
-    ((step s (signal passed)) .state)
+    → CalibrationEnded s ((step s (signal passed)) .state)
+    × (bit 14 (readAt ((step s (signal passed)) .state .board) 0x00) ≡ bit 14 (readAt (s .board) 0x00))
 
 abbrev pub Failed-calibrated : Type 0
 Failed-calibrated =
     (s : State)
     → refusal s (signal failed) ≡ 0
-    → Became s
-    (withCalibration (record { running = false; failed = true; calibrated = true }) (s .board .core))
-    ((step s (signal failed)) .state)
+    → CalibrationEnded s ((step s (signal failed)) .state)
+    × (bit 14 (readAt ((step s (signal failed)) .state .board) 0x00) ≡ true)
 
--- 01: settling "lasts until the settled event or initialise"
+-- 01: settling "lasts until the settled event or initialise"; "D6 reads EXTERNAL and neither settling nor calibrating"
+pub record ClockSettled (s s′ : State) : Type 0 where
+  pub ready : s .board .core .calibration .running ≡ false → bit 6 (readAt (s′ .board) 0x0C) ≡ bit 4 (readAt (s .board) 0x0C)
+  pub settling : s′ .board .core .clock .settling ≡ false
+  pub divisor : s′ .board .core .clock .divisor ≡ s .board .core .clock .divisor
+  pub nclk : s′ .board .core .clock .nclk ≡ s .board .core .clock .nclk
+  pub alt : s′ .board .core .clock .alt ≡ s .board .core .clock .alt
+  pub stays : AllStay (s .board .core) (s′ .board .core) besidesClock
+  pub room : SameRoom s s′
+
 abbrev pub Settled-clock : Type 0
 Settled-clock =
     (s : State)
     → refusal s (signal settled) ≡ 0
-    → Became s
-    (withClock (record {
-      divisor = s .board .core .clock .divisor;
-      nclk = s .board .core .clock .nclk;
-      alt = s .board .core .clock .alt;
-      settling = false;
-    }) (s .board .core))
-    ((step s (signal settled)) .state)
+    → ClockSettled s ((step s (signal settled)) .state)

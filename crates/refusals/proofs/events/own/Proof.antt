@@ -1,5 +1,5 @@
 use borrow.Author.Needs.{needs}
-use Rattle.rules.specs.Laws.Own.{ownNumber}
+use Rattle.rules.specs.Own.{ownNumber}
 use Rattle.refusals.proofs.events.own.Statement.{statement}
 use Rattle.refusals.proofs.events.own.Tie as tie
 

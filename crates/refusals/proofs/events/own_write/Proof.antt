@@ -1,7 +1,7 @@
 use mathlib.Core.Path.{sym, _∙_}
 use borrow.Author.Needs.{needs}
 use borrow.Author.Tests.{not-true, not-false}
-use Rattle.rules.specs.Laws.Own.{ownWrite}
+use Rattle.rules.specs.Own.{ownWrite}
 use Rattle.refusals.proofs.events.own_write.Statement.{statement}
 use Rattle.refusals.proofs.events.own_write.Tie as tie
 

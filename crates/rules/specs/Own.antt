@@ -1,4 +1,5 @@
--- The refusal of an event that is no power-up, once more: 3, else 2, else a number of its own, which the core alone decides.
+-- The refusal of an event that is no power-up as a choice: 3, else 2, else a number of its own, which the core alone decides. It is no
+-- law, since it repeats the order of Refusals.antt: the law is Refusal-exactly. It is what code and the proofs above are held to.
 use Prim.Native.Nat.{ℕ}
 use mathlib.Core.Path.{_≡_}
 use mathlib.Core.Bool.{not, cond}
