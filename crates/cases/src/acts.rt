@@ -4,6 +4,7 @@
 //   Set(i, v)            number i of its row is v
 //   Event(kind, ..)      an event: its kind and fields, as in a session file
 //   Answer.              prints by which number the last event was refused
+//   Value.               prints what the last event read
 //   Number(i)            prints number i of the row
 //   Memory(i)            prints entry i of the memory
 //   Figures.             prints the answer of the rate question
@@ -38,6 +39,7 @@ fn told(desk: Desk) {
     let act = desk.act;
     match act {
         b'A' => print::field(desk.refusal),
+        b'V' => print::field(desk.register),
         b'N' => {
             let row = desk.row;
             print::entry(&row, desk.numbers[0]);

@@ -29,5 +29,6 @@ pub(crate) fn event(mut desk: Desk) -> Desk {
     desk.row = row;
     desk.memory = memory;
     desk.refusal = answer[0];
+    desk.register = answer[1];
     desk
 }

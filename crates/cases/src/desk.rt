@@ -3,11 +3,12 @@
 pub(crate) struct Desk {
     // The board is a row of 55 numbers, as hosts have it: so a record can be handed in with any one number broken.
     pub(crate) row: [u32; 55],
-    // The sample memory, and how many entries of it the board is lent.
-    pub(crate) memory: [u32; 10],
+    // The sample memory, as long as that of `rehearse`, and how many entries of it the board is lent.
+    pub(crate) memory: [u32; 16384],
     pub(crate) lent: u32,
-    // By which number the last event was refused.
+    // By which number the last event was refused, and what it read.
     pub(crate) refusal: u32,
+    pub(crate) register: u32,
     // Whether the name of the line is over; the act and the number that are being read.
     pub(crate) named: bool,
     pub(crate) act: u8,
@@ -22,9 +23,10 @@ pub(crate) struct Desk {
 pub(crate) fn cleared(named: bool) -> Desk {
     Desk {
         row: [0; 55],
-        memory: [7000000; 10],
+        memory: [7000000; 16384],
         lent: 8,
         refusal: 99,
+        register: 99,
         named: named,
         act: 0,
         number: 0,
