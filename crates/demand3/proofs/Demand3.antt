@@ -53,7 +53,13 @@ agree : (s s′ : State) {es es′ : List Event} → AllNeverLower es es′ → 
     → PowerUpsAccepted s es → PowerUpsAccepted s′ es′ → NothingLost s es → Agree s es s′ es′
 agree s s′ w r q a a′ l =
     let b = runs s s′ w r a a′ l in
-    record { lossless = b .lossless; alike = related-alike _ _ (b .related); answers = b .answers; request = λ n. b .request n q }
+    record {
+      lossless = b .lossless;
+      alike = related-alike _ _ (b .related);
+      core = b .related .core;
+      answers = b .answers;
+      request = λ n. b .request n q;
+    }
 
 -- ---- Beginnings
 

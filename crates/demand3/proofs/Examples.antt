@@ -1,7 +1,7 @@
 -- The examples of demand 3, by computation.
 use Prim.Native.Nat.{ℕ}
 use mathlib.Core.Path.{_≡_, refl, ap}
-use mathlib.Core.Bool.{Bool, true, not, _&&_}
+use mathlib.Core.Bool.{Bool, true, not, _&&_, true≢false, false≢true}
 use mathlib.Core.List.{List, [], _∷_}
 use native.Mathlib.Omega.{arith}
 use borrow.Author.Tests.{eqb-true, eqb-false, not-true}
@@ -12,7 +12,7 @@ use Rattle.rules.specs.declared.Event.the-variants.{PowerUp as powerUp, Write a
 use Rattle.rules.specs.Record.{State}
 use Rattle.rules.specs.Step.{step}
 use Rattle.demand3.specs.Demand3.{NeverLower, same, deeper, larger, AllNeverLower, none, next, PowerUpAccepted, PowerUpsAccepted, NothingLost, NoQuarter, NoQuarters}
-use Rattle.demand3.specs.Examples.{settings, firstRun, secondRun, firstStart, secondStart, tooSmall, largeEnough, Demand3-met, Loss-matters}
+use Rattle.demand3.specs.Examples.{settings, firstRun, secondRun, firstStart, secondStart, Demand3-met, emptying, Request-met, tooSmall, largeEnough, Loss-matters, Quarter-matters}
 use Rattle.rules.proofs.Choice.{and-both}
 use Rattle.rules.proofs.Open.{rules-open}
 
@@ -108,6 +108,21 @@ demand3-met =
       nearly = refl;
     }
 
+pub request-met : Request-met
+unfolding allAccepted unstopped noneLost noneSelected unselected rules-open
+request-met =
+    record {
+      lower = deeper (settings 1) 3 (omega arith) ▸ sames _;
+      accepted = accepted-all firstStart (emptying 1) refl;
+      accepted′ = accepted-all secondStart (emptying 3) refl;
+      lossless = lossless-all firstStart (emptying 1) refl;
+      unselected = quarters-none firstStart (emptying 1) refl;
+      selected = refl;
+      before = refl;
+      set = refl;
+      cleared = refl;
+    }
+
 pub loss-matters : Loss-matters
 unfolding allAccepted unstopped rules-open
 loss-matters =
@@ -116,4 +131,26 @@ loss-matters =
       accepted = accepted-all firstStart tooSmall refl;
       accepted′ = accepted-all secondStart largeEnough refl;
       differ = λ e. let z : _≡_ {A = ℕ} 8 9 = ap length e in omega arith;
+    }
+
+pub quarter-matters : Quarter-matters
+unfolding allAccepted unstopped noneLost rules-open
+quarter-matters =
+    record {
+      low = record {
+        lower = deeper (settings 0) 2 (omega arith) ▸ sames _;
+        accepted = accepted-all _ _ refl;
+        accepted′ = accepted-all _ _ refl;
+        lossless = lossless-all _ _ refl;
+        selected = refl;
+        differ = false≢true;
+      };
+      high = record {
+        lower = deeper (settings 0) 2 (omega arith) ▸ sames _;
+        accepted = accepted-all _ _ refl;
+        accepted′ = accepted-all _ _ refl;
+        lossless = lossless-all _ _ refl;
+        selected = refl;
+        differ = true≢false;
+      };
     }

@@ -87,6 +87,8 @@ pub record Agree (s : State) (es : List Event) (s′ : State) (es′ : List Even
   -- "neither has the second"
   pub lossless : NothingLost s′ es′
   pub alike : Alike (after s es) (after s′ es′)
+  -- and beyond the order: the whole core
+  pub core : (after s es) .board .core ≡ (after s′ es′) .board .core
   pub answers : SameAnswers (outcomes s es) (outcomes s′ es′)
   -- "where neither quarter-full interrupt is ever selected, the interrupt request is equal too"
   pub request : NoQuarters s es → (after s es) .board .request ≡ (after s′ es′) .board .request

@@ -1,7 +1,9 @@
--- Demand 3 at work: a pair of runs that meets every premise, and a pair that shows why a loss ends its promise.
+-- Demand 3 at work: two pairs of runs that meet every premise, one of them with an interrupt selected, and pairs that show why a loss
+-- ends its promise and why a quarter-full interrupt ends that of the request.
 use Prim.Native.Nat.{ℕ, _+_}
 use mathlib.Core.Path.{_≡_}
 use mathlib.Core.Logic.{_≢_}
+use mathlib.Core.Bool.{true, false}
 use mathlib.Core.List.{List, [], _∷_}
 use lib.ListN.{length, replicate, take}
 use Rattle.rules.specs.declared.Settings.{Settings}
@@ -61,6 +63,28 @@ pub record Demand3-met : Type 0 where
   -- seven of eight after the load that was asked for
   pub nearly : length (stored (after firstStart (take 27 firstRun))) ≡ 7
 
+-- The request comes and goes by the edges of an interrupt that is no quarter: 2, the buffer empty.
+abbrev pub emptying : ℕ → List Event
+emptying d =
+    fit d ∷ mask 1 ∷ bor 0x2F
+    -- 2 is selected, and D11 clears the request that the power-up set
+    ∷ bcr 0x210
+    -- a value comes in and leaves, and another comes in
+    ∷ load 1 ∷ clk ∷ load 2 ∷ []
+
+-- Sizes 16 and 64. Every premise is met, to the end, and so the requests of the two runs are equal: here are those of the first.
+pub record Request-met : Type 0 where
+  pub lower : AllNeverLower (emptying 1) (emptying 3)
+  pub accepted : PowerUpsAccepted firstStart (emptying 1)
+  pub accepted′ : PowerUpsAccepted secondStart (emptying 3)
+  pub lossless : NothingLost firstStart (emptying 1)
+  pub unselected : NoQuarters firstStart (emptying 1)
+  pub selected : (after firstStart (emptying 1)) .board .core .control .selection ≡ 2
+  -- one value stored; none, which sets the request; one again, which clears it
+  pub before : (after firstStart (take 5 (emptying 1))) .board .request ≡ false
+  pub set : (after firstStart (take 6 (emptying 1))) .board .request ≡ true
+  pub cleared : (after firstStart (take 7 (emptying 1))) .board .request ≡ false
+
 -- The premise on losses is needed: here the first run loses its ninth value, and the stored values differ from then on.
 abbrev pub tooSmall : List Event
 tooSmall = fit 0 ∷ load 1 ∷ load 2 ∷ load 3 ∷ load 4 ∷ load 5 ∷ load 6 ∷ load 7 ∷ load 8 ∷ load 9 ∷ []
@@ -73,3 +97,22 @@ pub record Loss-matters : Type 0 where
   pub accepted : PowerUpsAccepted firstStart tooSmall
   pub accepted′ : PowerUpsAccepted secondStart largeEnough
   pub differ : stored (after firstStart tooSmall) ≢ stored (after secondStart largeEnough)
+
+-- The premise on the quarters is needed: seven values are loaded, and v, which is written to BCR, selects the interrupt.
+abbrev pub filling : ℕ → ℕ → List Event
+filling v d = fit d ∷ bcr v ∷ load 1 ∷ load 2 ∷ load 3 ∷ load 4 ∷ load 5 ∷ load 6 ∷ load 7 ∷ []
+
+-- sizes 8 and 32, interrupt n; every premise but that one is met
+pub record RequestsDiffer (n v : ℕ) : Type 0 where
+  pub lower : AllNeverLower (filling v 0) (filling v 2)
+  pub accepted : PowerUpsAccepted firstStart (filling v 0)
+  pub accepted′ : PowerUpsAccepted secondStart (filling v 2)
+  pub lossless : NothingLost firstStart (filling v 0)
+  pub selected : (after firstStart (filling v 0)) .board .core .control .selection ≡ n
+  pub differ : (after firstStart (filling v 0)) .board .request ≢ (after secondStart (filling v 2)) .board .request
+
+pub record Quarter-matters : Type 0 where
+  -- D11 leaves the request set: at size 8 the second value clears it, at size 32 none of the seven does
+  pub low : RequestsDiffer 3 0xB10
+  -- D11 clears the request: at size 8 the seventh value sets it, at size 32 none does
+  pub high : RequestsDiffer 4 0x410

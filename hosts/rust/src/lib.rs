@@ -172,18 +172,24 @@ pub fn event(record: &mut Record, memory: &mut [u32], event: Event) -> Answer {
     }
 }
 
-/// The rate question.
-pub fn rate(record: &Record) -> Figures {
-    let mut figures = [0; 3];
-    // Two arrays, valid and apart from each other, which is all that the function asks.
-    let status = unsafe {
+/// The rate question itself, on numbers: answers 0, or why the call is not understood (hosts/c/nergutsai.h).
+/// Slices of any length may be handed in.
+pub fn rate_call(record: &[u32], figures: &mut [u32]) -> u32 {
+    // The borrows make the two slices valid and apart from each other, which is all that the function asks.
+    unsafe {
         nergutsai_rate(
-            record.0.as_ptr(),
-            record.0.len(),
+            record.as_ptr(),
+            record.len(),
             figures.as_mut_ptr(),
             figures.len(),
         )
-    };
+    }
+}
+
+/// The rate question.
+pub fn rate(record: &Record) -> Figures {
+    let mut figures = [0; 3];
+    let status = rate_call(&record.0, &mut figures);
     assert_eq!(status, 0, "the lengths are right by their types");
     let [refusal, reference, rate] = figures;
     Figures {
