@@ -9,6 +9,7 @@ use Rattle.rules.specs.Clocks.{Play}
 use Rattle.rules.specs.Flags.{isFull}
 use Rattle.rules.specs.Place.{place}
 use Rattle.rules.specs.Refusals.{refusal}
+use Rattle.rules.specs.Laws.Refusals.{Ordinary}
 use Rattle.rules.specs.Step.{played}
 use Rattle.rules.proofs.Refusals.{refusal-stands}
 use Rattle.record.specs.Promises.{DepthTold}
@@ -19,12 +20,22 @@ use Rattle.moves.specs.Does.{Does, listed}
 use Rattle.plans.specs.declared.Act.{Act}
 use Rattle.plans.specs.declared.Act.the-variants.{Nothing, Empties, Clocks, Loads}
 use Rattle.plans.specs.declared.Plan.{Plan}
-use Rattle.plans.specs.Parts.{carried, Moves, Within}
+use Rattle.plans.specs.Parts.{carried, Moves}
 use Rattle.plans.specs.Promises.{Planned}
+use Rattle.plans.proofs.Laws.{plan-plays, plan-ordinary, plan-within}
 use Rattle.board.specs.Types.{Core, Ring, Event}
 
-pub within-sober : {c k : Core} → Within c k → Sober c → Sober k
-within-sober w s = record { mask = rw (w .mask) (s .mask); cursor = le-trans (w .cursor) (s .cursor) }
+-- ---- A plan that moves a value or stores one
+
+pub moves-ordinary : {c : Core} {e : Event} {p : Plan} → Planned c e p → Moves (p .act) → Ordinary e
+moves-ordinary {c} {e} w k = plan-ordinary c e (rw (w .told) at k)
+
+pub moves-sober : {c : Core} {e : Event} {p : Plan} → Planned c e p → Moves (p .act) → Sober c → Sober (p .core)
+moves-sober {c} {e} w k s =
+    let h = plan-within c e (rw (w .told) at k) in
+    rw (w .told) (record { mask = rw (h .mask) (s .mask); cursor = le-trans (h .cursor) (s .cursor) })
+
+-- ---- Any plan
 
 -- an act that moves nothing and stores nothing does not ask for the depth
 any-depth : (a : Act) (c : Core) (full : Bool) (d d′ : ℕ) (ring : Ring) (m : List ℕ) (r : Played) (m′ : List ℕ) → (Moves a → d ≡ d′)
@@ -42,6 +53,6 @@ pub planned-does : (s : State) (e : Event) (p : Plan) (d : ℕ) (r : Played) (m�
 unfolding stored
 planned-does s e p d r m′ z w t h =
     let full = isFull (s .board .size) (s .board .ring .count) in
-    subst (λ (q : Play). Does (depth (s .board)) q (s .board .ring) (s .memory) r m′) (sym (w .plays (stored s) full))
+    subst (λ (q : Play). Does (depth (s .board)) q (s .board .ring) (s .memory) r m′) (sym (rw (w .told) (plan-plays (s .board .core) e (stored s) full)))
     (any-depth (p .act) (p .core) full d (depth (s .board)) (s .board .ring) (s .memory) r m′
-    (λ k. depth-told (s .board) d t ((refusal-stands s e (w .ordinary k) z) .sound .fitted)) h)
+    (λ k. depth-told (s .board) d t ((refusal-stands s e (moves-ordinary w k) z) .sound .fitted)) h)

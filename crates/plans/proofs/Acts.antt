@@ -1,12 +1,10 @@
 -- What the rules make of each write and signal is what its plan comes to.
 use Prim.Native.Nat.{ℕ, _≤_}
 use mathlib.Core.Path.{_≡_, refl}
-use mathlib.Core.Logic.{_≢_}
 use mathlib.Core.Bool.{Bool, true, false, cond, _&&_}
 use mathlib.Core.List.{List}
 use native.Mathlib.Nat.{le-refl}
 use native.Mathlib.Omega.{arith}
-use borrow.Author.Tests.{ne-eqb}
 use lib.Dec.{eqb}
 use Rattle.rules.specs.Bits.{bit}
 use Rattle.rules.specs.Clocks.{clear, none, only, clock, clockAccepted, tickAccepted, onTick, onOutside}
@@ -48,6 +46,20 @@ module _ (c : Core) (buf : List ℕ) (full : Bool) where
       go false true false = unfold carried in refl
       go false false w = unfold carried in refl
 
+  -- ---- A write that neither initialises, nor is to 0Ch or 18h
+
+  pub plays-core : (o v : ℕ) → eqb o 0x0C ≡ false → eqb o 0x18 ≡ false → eqb o 0x00 && bit 15 v ≡ false
+      → onWrite c buf full o v ≡ only (coreOf c o v)
+  plays-core o v h k n = go (eqb o 0x00) (eqb o 0x04) (eqb o 0x08) refl refl refl
+    where
+      go : (t u w : Bool) → eqb o 0x00 ≡ t → eqb o 0x04 ≡ u → eqb o 0x08 ≡ w → onWrite c buf full o v ≡ only (coreOf c o v)
+      go true u w t p q = unfold onWrite coreOf writeControl in rw (t, rw t at n)
+      go false true w t p q = unfold onWrite coreOf writeMask in rw (t, p)
+      go false false true t p q = unfold onWrite coreOf writeRate in rw (t, p, q)
+      go false false false t p q = unfold onWrite coreOf writeAdjust in rw (t, p, q, h, k)
+
+-- ---- The mask and the cursor
+
 -- a BOR write leaves the mask, and the cursor or 0
 pub buffer-within : (v : ℕ) (c : Core) → Within c (bufferOf v c)
 unfolding bufferOf
@@ -55,16 +67,3 @@ buffer-within v c = record { mask = refl; cursor = either (λ (n : ℕ). n ≤ c
 
 pub same-within : (c : Core) → Within c c
 same-within c = record { mask = refl; cursor = le-refl (c .outputs .cursor) }
-
--- ---- A write that neither initialises, nor is to 0Ch or 18h
-
-pub plays-core : (c : Core) (buf : List ℕ) (full : Bool) (o v : ℕ) → o ≢ 0x0C → o ≢ 0x18 → eqb o 0x00 && bit 15 v ≡ false
-    → onWrite c buf full o v ≡ only (coreOf c o v)
-unfolding onWrite coreOf writeControl writeMask writeRate writeAdjust
-plays-core c buf full o v h k n = go (eqb o 0x00) (eqb o 0x04) (eqb o 0x08) refl refl refl
-  where
-    go : (t u w : Bool) → eqb o 0x00 ≡ t → eqb o 0x04 ≡ u → eqb o 0x08 ≡ w → onWrite c buf full o v ≡ only (coreOf c o v)
-    go true u w t p q = unfold onWrite coreOf writeControl in rw (t, rw t at n)
-    go false true w t p q = unfold onWrite coreOf writeMask in rw (t, p)
-    go false false true t p q = unfold onWrite coreOf writeRate in rw (t, p, q)
-    go false false false t p q = unfold onWrite coreOf writeAdjust in rw (t, p, q, ne-eqb o 0x0C h, ne-eqb o 0x18 k)

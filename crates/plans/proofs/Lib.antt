@@ -1,3 +1,4 @@
--- What the functions' proofs cite; each file opens with what it shows.
+-- The laws, and what they rest on; each file opens with what it shows.
 pub mod Acts
+pub mod Laws
 pub mod Unique

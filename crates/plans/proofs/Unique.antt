@@ -1,6 +1,6 @@
--- Both come to what the rules make of the event.
-use mathlib.Core.Path.{sym, _∙_}
-use Rattle.plans.specs.Unique.{Planned-alike}
+-- The promise says that the plan equals one thing: two that do are equal.
+use Rattle.rules.proofs.Equal.{determined}
+use Rattle.plans.specs.Unique.{Planned-unique}
 
-pub planned-alike : Planned-alike
-planned-alike c e r r′ buf full p q = sym (p .plays buf full) ∙ q .plays buf full
+pub planned-unique : Planned-unique
+planned-unique c e r r′ p q = determined (p .told) (q .told)

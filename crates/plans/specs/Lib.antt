@@ -1,3 +1,5 @@
 pub mod Parts
+pub mod Plan
 pub mod Promises
 pub mod Unique
+pub mod Laws

@@ -1,5 +1,5 @@
 // What an event is to do, before any value moves: the core that it leaves, and what then comes of the stored values.
-// Every call takes every input. What `plan_of` promises is in specs/Promises.antt.
+// Every call takes every input. What `plan_of` promises is in specs/Promises.antt, and the plan itself in specs/Plan.antt.
 ghost use Rattle.plans.specs.Promises.{Planned};
 use crate::signals::on_signal;
 use crate::writes::initial;

@@ -1,11 +1,9 @@
 // Clocks, triggers, the ends of calibration and settling: what each plans.
-ghost use Prim.Native.Nat.{ℕ};
 ghost use mathlib.Core.Path.{_≡_};
-ghost use mathlib.Core.Bool.{Bool};
-ghost use mathlib.Core.List.{List};
 ghost use Rattle.rules.specs.Clocks.{onTrigger};
-ghost use Rattle.rules.specs.Play.{calibrationEnds, settles, onSignal};
-ghost use Rattle.plans.specs.Parts.{clocksIf, carried, Moves, Within};
+ghost use Rattle.rules.specs.Play.{calibrationEnds, settles};
+ghost use Rattle.plans.specs.Parts.{clocksIf};
+ghost use Rattle.plans.specs.Plan.{signalPlan};
 use crate::Act;
 use crate::Plan;
 use crate::choose::pick_burst;
@@ -61,7 +59,7 @@ pub(crate) fn settled(c: Core) -> Core
 }
 
 pub(crate) fn on_signal(c: Core, x: Signal) -> Plan
-    ensures { λ r. ⌜ ((buf : List ℕ) (full : Bool) → onSignal c buf x ≡ carried (r .act) (r .core) buf full) × (Moves (r .act) → Within c (r .core)) ⌝ }
+    ensures { λ r. ⌜ r ≡ signalPlan c x ⌝ }
 {
     match x {
         Signal::Tick => Plan {

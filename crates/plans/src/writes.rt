@@ -1,10 +1,8 @@
 // Writes as changes of the core, and what the write to each offset plans.
-ghost use Prim.Native.Nat.{ℕ};
 ghost use mathlib.Core.Path.{_≡_};
-ghost use mathlib.Core.Bool.{Bool};
-ghost use mathlib.Core.List.{List};
-ghost use Rattle.plans.specs.Parts.{coreOf, bufferAct, carried, Moves, Within};
-ghost use Rattle.rules.specs.Writes.{initial, controlOf, burstOf, cursorOf, calibrationOf, writeControl, writeMask, writeRate, writeAdjust, modeOf, lostOf, loadKept, loadAsked, bufferOf, onWrite};
+ghost use Rattle.plans.specs.Parts.{coreOf, bufferAct};
+ghost use Rattle.plans.specs.Plan.{writePlan};
+ghost use Rattle.rules.specs.Writes.{initial, controlOf, burstOf, cursorOf, calibrationOf, writeControl, writeMask, writeRate, writeAdjust, modeOf, lostOf, loadKept, loadAsked, bufferOf};
 use crate::Act;
 use crate::Plan;
 use crate::choose::pick;
@@ -284,7 +282,7 @@ pub(crate) fn buffer_act(v: u32, accepted: bool) -> Act
 
 // A write to any offset that takes one.
 pub(crate) fn on_write(c: Core, o: u32, v: u32) -> Plan
-    ensures { λ r. ⌜ ((buf : List ℕ) (full : Bool) → onWrite c buf full o v ≡ carried (r .act) (r .core) buf full) × (Moves (r .act) → Within c (r .core)) ⌝ }
+    ensures { λ r. ⌜ r ≡ writePlan c o v ⌝ }
 {
     if o == 12 {
         let k = buffer_of(v, c);

@@ -10,7 +10,7 @@ use Rattle.rules.proofs.Refusals.{refusal-stands}
 use Rattle.record.proofs.Told.{depth-told}
 use Rattle.board.specs.Types.{Board}
 use Rattle.board.proofs.Standing.{stands-sized, stands-ready, stands-sober}
-use Rattle.board.proofs.Planning.{within-sober, planned-does}
+use Rattle.board.proofs.Planning.{moves-ordinary, moves-sober, planned-does}
 use Rattle.board.proofs.Whole.{both-sized, done-stepped}
 use Rattle.board.proofs.steps.done.Statement.{statement}
 use Rattle.board.proofs.steps.done.Tie as tie
@@ -28,9 +28,9 @@ carry-requires : tie.Need-carry-requires
 carry-requires c κs =
     λ k. let a = c .before .before .before .before .before .before .before .before .args in
     let w = c .before .before .plan-of .ensures in
-    let st = refusal-stands (stateOf (a .b) (a .memory .now)) (a .e) (w .ordinary k) (c .before .before .before .before .before .before .before .before .pre) in
+    let st = refusal-stands (stateOf (a .b) (a .memory .now)) (a .e) (moves-ordinary w k) (c .before .before .before .before .before .before .before .before .pre) in
     rw (depth-told (a .b) _ (c .before .depth .ensures) (st .sound .fitted))
-    (stands-ready _ st, within-sober (w .within k) (stands-sober _ st), st .sound .fitted, size-depth (a .b .size))
+    (stands-ready _ st, moves-sober w k (stands-sober _ st), st .sound .fitted, size-depth (a .b .size))
 
 board-before-requires : tie.Need-board-before-requires
 board-before-requires c κs = search needs

@@ -1,11 +1,7 @@
--- A clock that is accepted is done on the core as it is; any other signal changes the core alone.
-use mathlib.Core.Path.{sym, ap, _∙_}
+-- Each signal plans as `signalPlan` says.
+use mathlib.Core.Path.{refl}
 use borrow.Author.Needs.{needs}
-use Rattle.rules.specs.Clocks.{only, onTrigger}
-use Rattle.rules.specs.Play.{calibrationEnds, settles, onSignal}
-use Rattle.plans.specs.declared.Act.{Act}
-use Rattle.plans.specs.Parts.{carried, Moves, clocksIf}
-use Rattle.plans.proofs.Acts.{plays-tick, plays-outside, same-within}
+use Rattle.plans.specs.Plan.{signalPlan}
 use Rattle.plans.proofs.signals.on_signal.Statement.{statement}
 use Rattle.plans.proofs.signals.on_signal.Tie as tie
 
@@ -52,34 +48,28 @@ settled-requires : tie.Need-settled-requires
 settled-requires c κs = search needs
 
 returns : tie.Need-returns
-unfolding onSignal
-returns c =
-    let k = c .before .before .before .before .args .c in
-    let act = sym (c .clocks-if .ensures ∙ ap clocksIf (c .before .tick-accepted .ensures)) in
-    (λ buf full. rw (c .before .before .enum-told .given .1) (plays-tick k buf full ∙ ap (λ (x : Act). carried x k buf full) act), λ _. same-within k)
+unfolding signalPlan
+returns c = rw (c .clocks-if .ensures, c .before .tick-accepted .ensures, c .before .before .enum-told .given .1) refl
 
 returns-2 : tie.Need-returns-2
-unfolding onSignal
-returns-2 c =
-    let k = c .before .before .before .before .args .c in
-    let act = sym (c .clocks-if2 .ensures ∙ ap clocksIf (c .before .clock-accepted .ensures)) in
-    (λ buf full. rw (c .before .before .enum-told2 .given .1) (plays-outside k buf full ∙ ap (λ (x : Act). carried x k buf full) act), λ _. same-within k)
+unfolding signalPlan
+returns-2 c = rw (c .clocks-if2 .ensures, c .before .clock-accepted .ensures, c .before .before .enum-told2 .given .1) refl
 
 returns-3 : tie.Need-returns-3
-unfolding onSignal onTrigger carried Moves
-returns-3 c = (λ buf full. rw (c .before .enum-told3 .given .1) (ap only (sym (c .on-trigger .ensures))), λ m. absurd m)
+unfolding signalPlan
+returns-3 c = rw (c .on-trigger .ensures, c .before .enum-told3 .given .1) refl
 
 returns-4 : tie.Need-returns-4
-unfolding onSignal calibrationEnds carried Moves
-returns-4 c = (λ buf full. rw (c .before .enum-told4 .given .1) (ap only (sym (c .calibration-ends .ensures))), λ m. absurd m)
+unfolding signalPlan
+returns-4 c = rw (c .calibration-ends .ensures, c .before .enum-told4 .given .1) refl
 
 returns-5 : tie.Need-returns-5
-unfolding onSignal calibrationEnds carried Moves
-returns-5 c = (λ buf full. rw (c .before .enum-told5 .given .1) (ap only (sym (c .calibration-ends2 .ensures))), λ m. absurd m)
+unfolding signalPlan
+returns-5 c = rw (c .calibration-ends2 .ensures, c .before .enum-told5 .given .1) refl
 
 returns-6 : tie.Need-returns-6
-unfolding onSignal settles carried Moves
-returns-6 c = (λ buf full. rw (c .before .enum-told6 .given .1) (ap only (sym (c .settled .ensures))), λ m. absurd m)
+unfolding signalPlan
+returns-6 c = rw (c .settled .ensures, c .before .enum-told6 .given .1) refl
 
 pub on-signal-spec : {M : Type 1} → statement M
 on-signal-spec =
