@@ -4,7 +4,7 @@
 -- The kinds are those of a session file.
 use Prim.Native.Nat.{ℕ}
 use mathlib.Core.List.{List}
-use Rattle.session.specs.File.{eventOf}
+use Rattle.files.specs.File.{eventOf}
 use Rattle.layout.specs.Layout.{at}
 use Rattle.bridge.specs.Types.{Event}
 

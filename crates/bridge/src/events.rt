@@ -1,7 +1,7 @@
 // The event that a row of six numbers says.
 ghost use mathlib.Core.Path.{_≡_};
 ghost use lib.ListN.{length};
-ghost use Rattle.session.specs.File.{signalOf, eventOf};
+ghost use Rattle.files.specs.File.{signalOf, eventOf};
 ghost use Rattle.bridge.specs.Events.{eventAt};
 use rules::Event;
 use rules::Settings;

@@ -1,7 +1,7 @@
 // How a session file ends.
 use crate::print;
-use session::End;
-use session::Fault;
+use files::End;
+use files::Fault;
 
 fn number(why: Fault) -> u32 {
     match why {

@@ -8,11 +8,11 @@ use Rattle.rules.specs.declared.Event.{Event}
 use Rattle.rules.specs.Record.{State}
 use Rattle.rules.specs.Step.{step}
 use Rattle.rules.specs.Session.{outcomes, after}
-use Rattle.session.specs.declared.End.{End}
-use Rattle.session.specs.declared.End.the-variants.{File, Refused}
-use Rattle.session.specs.declared.Item.the-variants.{Over}
-use Rattle.session.specs.File.{Session}
-use Rattle.session.proofs.Sessions.{Within}
+use Rattle.files.specs.declared.End.{End}
+use Rattle.files.specs.declared.End.the-variants.{File, Refused}
+use Rattle.files.specs.declared.Item.the-variants.{Over}
+use Rattle.files.specs.File.{Session}
+use Rattle.files.proofs.Sessions.{Within}
 use Rattle.text.specs.Text.{line}
 use Rattle.listing.specs.Listing.{lines, tail, InReach}
 

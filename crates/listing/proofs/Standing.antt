@@ -8,11 +8,11 @@ use lib.ListN.{length}
 use Rattle.rules.specs.declared.Signal.the-variants.{Tick}
 use Rattle.rules.specs.declared.Event.{Event}
 use Rattle.rules.specs.declared.Event.the-variants.{Write, Signal as signal}
-use Rattle.session.specs.declared.Item.the-variants.{Got}
-use Rattle.session.specs.File.{byteAt, wordAt, quadAt, signalOf, eventAt, itemAt, eventOf}
-use Rattle.session.specs.Laws.{Known, Whole, event, later}
-use Rattle.session.specs.Laws.{write as writeKnown, signal as signalKnown}
-use Rattle.session.proofs.Given.{item-exactly}
+use Rattle.files.specs.declared.Item.the-variants.{Got}
+use Rattle.files.specs.File.{byteAt, wordAt, quadAt, signalOf, eventAt, itemAt, eventOf}
+use Rattle.files.specs.Laws.{Known, Whole, event, later}
+use Rattle.files.specs.Laws.{write as writeKnown, signal as signalKnown}
+use Rattle.files.proofs.Given.{item-exactly}
 use Rattle.listing.specs.Shortcuts.{aheadEvent}
 
 -- a whole record of a known kind, from place 1 on, is the event that its bytes say

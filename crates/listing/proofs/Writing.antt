@@ -10,11 +10,11 @@ use Rattle.rules.specs.declared.Board.{Board}
 use Rattle.rules.specs.Record.{State, start, stateOf}
 use Rattle.rules.specs.Step.{step}
 use Rattle.rules.specs.Session.{after}
-use Rattle.session.specs.declared.End.{End}
-use Rattle.session.specs.declared.Item.the-variants.{Got, Over}
-use Rattle.session.specs.File.{itemAt, Session, session}
-use Rattle.session.proofs.Given.{item-grows}
-use Rattle.session.proofs.Rests.{Rest, rest-start, rest-got, rest-over}
+use Rattle.files.specs.declared.End.{End}
+use Rattle.files.specs.declared.Item.the-variants.{Got, Over}
+use Rattle.files.specs.File.{itemAt, Session, session}
+use Rattle.files.proofs.Given.{item-grows}
+use Rattle.files.proofs.Rests.{Rest, rest-start, rest-got, rest-over}
 use Rattle.board.specs.declared.Reply.{Reply}
 use Rattle.board.specs.Promises.{Stepped}
 use Rattle.text.specs.Text.{line}

@@ -11,9 +11,9 @@ use lib.ListN.{length}
 use Rattle.rules.specs.Record.{State, start}
 use Rattle.rules.specs.Step.{Outcome}
 use Rattle.rules.specs.Session.{outcomes, after}
-use Rattle.session.specs.declared.End.{End}
-use Rattle.session.specs.declared.End.the-variants.{File, Refused}
-use Rattle.session.specs.File.{faultNumber, session}
+use Rattle.files.specs.declared.End.{End}
+use Rattle.files.specs.declared.End.the-variants.{File, Refused}
+use Rattle.files.specs.File.{verdict, session}
 use Rattle.text.specs.Text.{heading, tooLong, line, levelsLine, fileLine}
 
 -- ---- The parts
@@ -24,7 +24,7 @@ lines k (o ∷ os) = line k (o .answer) (o .state .board .ring .count) ++ lines 
 
 abbrev pub ending : End → List ℕ
 ending File = []
-ending (Refused why p) = fileLine (faultNumber why) p
+ending (Refused why p) = fileLine ((verdict (Refused why p)) .number) ((verdict (Refused why p)) .place)
 
 unfoldable pub tail : End → List ℕ → List ℕ
 tail end levels = ending end ++ levelsLine levels

@@ -4,8 +4,8 @@ ghost use mathlib.Core.Path.{_≡_};
 ghost use mathlib.Core.Logic.{_≢_};
 ghost use mathlib.Core.Bool.{true};
 ghost use lib.ListN.{length};
-ghost use Rattle.session.specs.File.{byteAt, wordAt, quadAt, itemAt};
-ghost use Rattle.session.specs.declared.Item.the-variants.{Got};
+ghost use Rattle.files.specs.File.{byteAt, wordAt, quadAt, itemAt};
+ghost use Rattle.files.specs.declared.Item.the-variants.{Got};
 ghost use Rattle.listing.specs.Shortcuts.{aheadEvent};
 
 // 1 a write of the value to 18h, 2 a tick, and the place after it; 0 anything else.

@@ -2,13 +2,13 @@
 ghost use Prim.Native.Nat.{_+_, _≤_};
 ghost use mathlib.Core.Path.{_≡_};
 ghost use lib.ListN.{length};
-ghost use Rattle.session.specs.File.{faultNumber};
+ghost use Rattle.files.specs.File.{faultNumber};
 ghost use Rattle.listing.specs.Pieces.{Put};
 ghost use Rattle.listing.specs.Listing.{tail, InReach};
 use crate::lines::put_file_line;
 use crate::lines::put_levels;
-use session::End;
-use session::Fault;
+use files::End;
+use files::Fault;
 
 pub(crate) fn fault_number(why: Fault) -> u32
     ensures { λ r. ⌜ r ≡ faultNumber why ⌝ }

@@ -13,6 +13,7 @@ use crate::shortcuts::at_once;
 use crate::shortcuts::quick;
 use crate::tails::put_tail;
 use board::step;
+use files::Item;
 use reader::read_at;
 use record::depth;
 use record::unpowered;
@@ -20,7 +21,6 @@ use rules::Board;
 use rules::Core;
 use rules::Outputs;
 use rules::Ring;
-use session::Item;
 
 // The record of a run: what neither a load nor a tick changes stands in `rest`.
 pub(crate) fn whole(rest: Board, core: Core, ring: Ring) -> Board

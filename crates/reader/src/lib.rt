@@ -2,7 +2,7 @@
 // one; `read_at` stands above them with plain parameters, and is what a run calls.
 ghost use Rattle.session.specs.Promises.{ItemTold};
 ghost use Rattle.reader.specs.Promises.{Opened};
-use session::Item;
+use files::Item;
 use session::item_at;
 
 pub struct Reader<'a> {

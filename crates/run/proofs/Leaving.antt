@@ -9,11 +9,11 @@ use Rattle.rules.specs.declared.Event.{Event}
 use Rattle.rules.specs.Record.{State, start}
 use Rattle.rules.specs.Step.{step}
 use Rattle.rules.specs.Session.{after}
-use Rattle.session.specs.declared.End.{End}
-use Rattle.session.specs.declared.Item.the-variants.{Got, Over}
-use Rattle.session.specs.File.{itemAt, Session, session}
-use Rattle.session.proofs.Given.{item-grows}
-use Rattle.session.proofs.Rests.{Rest, rest-start, rest-got, rest-over}
+use Rattle.files.specs.declared.End.{End}
+use Rattle.files.specs.declared.Item.the-variants.{Got, Over}
+use Rattle.files.specs.File.{itemAt, Session, session}
+use Rattle.files.proofs.Given.{item-grows}
+use Rattle.files.proofs.Rests.{Rest, rest-start, rest-got, rest-over}
 
 -- x is the session from the place at on
 pub record Turn (s m : List ℕ) (st : State) (at : ℕ) (x : Session) : Type 0 where

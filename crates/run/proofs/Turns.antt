@@ -7,10 +7,10 @@ use Rattle.rules.specs.declared.Answer.{Answer}
 use Rattle.rules.specs.declared.Event.{Event}
 use Rattle.rules.specs.Record.{State}
 use Rattle.rules.specs.Step.{step}
-use Rattle.session.specs.declared.End.{End}
-use Rattle.session.specs.declared.Item.{Item}
-use Rattle.session.specs.declared.Item.the-variants.{Got, Over}
-use Rattle.session.specs.File.{itemAt}
+use Rattle.files.specs.declared.End.{End}
+use Rattle.files.specs.declared.Item.{Item}
+use Rattle.files.specs.declared.Item.the-variants.{Got, Over}
+use Rattle.files.specs.File.{itemAt}
 use Rattle.run.specs.declared.Cursor.{Cursor}
 use Rattle.run.specs.declared.Progress.{Progress}
 use Rattle.run.specs.declared.Progress.the-variants.{Played, Ended}

@@ -5,7 +5,7 @@ use mathlib.Core.List.{List}
 use Rattle.rules.specs.declared.Board.{Board}
 use Rattle.rules.specs.Record.{stateOf, start}
 use Rattle.rules.specs.Session.{after}
-use Rattle.session.specs.File.{session}
+use Rattle.files.specs.File.{session}
 use Rattle.run.specs.declared.Cursor.{Cursor}
 use Rattle.run.specs.declared.Advanced.{Advanced}
 use Rattle.run.specs.declared.Ran.{Ran}

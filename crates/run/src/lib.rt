@@ -2,12 +2,12 @@
 ghost use Rattle.record.specs.Promises.{Unpowered};
 ghost use Rattle.run.specs.Promises.{Advances, Runs};
 use board::step;
+use files::End;
+use files::Item;
 use reader::read_at;
 use record::unpowered;
 use rules::Answer;
 use rules::Board;
-use session::End;
-use session::Item;
 
 // How far a session has been read.
 pub struct Cursor {

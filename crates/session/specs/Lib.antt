@@ -1,4 +1,2 @@
-pub mod File
 pub mod Promises
 pub mod Unique
-pub mod Laws

@@ -2,8 +2,8 @@
 use Prim.Native.Nat.{ℕ}
 use mathlib.Core.Path.{_≡_}
 use mathlib.Core.List.{List}
-use Rattle.session.specs.declared.Item.{Item}
-use Rattle.session.specs.File.{itemAt}
+use Rattle.files.specs.declared.Item.{Item}
+use Rattle.files.specs.File.{itemAt}
 
 pub record ItemTold (s : List ℕ) (at : ℕ) (r : Item) : Type 0 where
   pub told : r ≡ itemAt s at

@@ -2,7 +2,7 @@
 use Prim.Native.Nat.{ℕ}
 use mathlib.Core.Path.{_≡_}
 use mathlib.Core.List.{List}
-use Rattle.session.specs.declared.Item.{Item}
+use Rattle.files.specs.declared.Item.{Item}
 use Rattle.session.specs.Promises.{ItemTold}
 
 abbrev pub Item-unique : Type 0

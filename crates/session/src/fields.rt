@@ -2,7 +2,7 @@
 ghost use Prim.Native.Nat.{_+_, _<_, _≤_};
 ghost use mathlib.Core.Path.{_≡_};
 ghost use lib.ListN.{length};
-ghost use Rattle.session.specs.File.{byteAt, wordAt, quadAt, lengthOf, signalOf, settingsAt, eventAt};
+ghost use Rattle.files.specs.File.{byteAt, wordAt, quadAt, lengthOf, signalOf, settingsAt, eventAt};
 use rules::Event;
 use rules::Settings;
 use rules::Signal;

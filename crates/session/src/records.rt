@@ -1,15 +1,15 @@
 // The records of a file.
 ghost use mathlib.Core.Path.{_≡_};
-ghost use Rattle.session.specs.declared.End.the-variants.{Refused};
-ghost use Rattle.session.specs.declared.Item.the-variants.{Over};
-ghost use Rattle.session.specs.File.{recordAt, itemAt};
-use crate::End;
-use crate::Fault;
-use crate::Item;
+ghost use Rattle.files.specs.declared.End.the-variants.{Refused};
+ghost use Rattle.files.specs.declared.Item.the-variants.{Over};
+ghost use Rattle.files.specs.File.{recordAt, itemAt};
 use crate::fields::byte_at;
 use crate::fields::event_at;
 use crate::fields::length_of;
 use crate::fields::word_at;
+use files::End;
+use files::Fault;
+use files::Item;
 
 fn refused(why: Fault, at: usize) -> Item
     ensures { λ r. ⌜ r ≡ Over (Refused why at) ⌝ }

@@ -44,11 +44,11 @@ use denote.Exit.{yes}
 use denote.Triple.Clauses.{ensured, lasts}
 use Rattle.session.specs.Promises.{ItemTold}
 use Rattle.reader.specs.declared.Reader.{Reader}
-use Rattle.session.specs.declared.Item.{Item}
+use Rattle.files.specs.declared.Item.{Item}
 use Rattle.reader.proofs.Reader as T
 use Rattle.reader.proofs.Reader.Laws as T′
-use Rattle.session.proofs.Item as S
-use Rattle.session.proofs.Item.Laws as S′
+use Rattle.files.proofs.Item as S
+use Rattle.files.proofs.Item.Laws as S′
 use Rattle.session.proofs.item_at as at
 use Rattle.session.proofs.item_at.Symbol as at-def
 use Rattle.session.proofs.item_at.Symbol.{name as #session·item-at}

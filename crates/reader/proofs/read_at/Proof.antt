@@ -37,15 +37,15 @@ use denote.Triple.Table.{entered, cited}
 use denote.Triple.Walked.{says, Stays, stay-none, stay-none-slice, walkOf, goes-none, goes-none-slice, Walks, ends-at, walked, walk-meets}
 use denote.Exit.{yes}
 use denote.Triple.Clauses.{ensured, lasts}
-use Rattle.session.specs.File.{itemAt}
+use Rattle.files.specs.File.{itemAt}
 use Rattle.session.specs.Promises.{ItemTold}
 use Rattle.reader.specs.Promises.{Opened}
 use Rattle.reader.specs.declared.Reader.{Reader}
-use Rattle.session.specs.declared.Item.{Item}
+use Rattle.files.specs.declared.Item.{Item}
 use Rattle.reader.proofs.Reader as T
 use Rattle.reader.proofs.Reader.Laws as T′
-use Rattle.session.proofs.Item as S
-use Rattle.session.proofs.Item.Laws as S′
+use Rattle.files.proofs.Item as S
+use Rattle.files.proofs.Item.Laws as S′
 use Rattle.reader.proofs.open as opn
 use Rattle.reader.proofs.open.Symbol as open-def
 use Rattle.reader.proofs.open.Symbol.{name as #reader·open}

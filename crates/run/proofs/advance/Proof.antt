@@ -1,6 +1,6 @@
 -- The record read is the file's at the cursor; an event is the board's step.
 use mathlib.Core.Path.{sym, ap, _∙_}
-use Rattle.session.specs.declared.Item.{Item}
+use Rattle.files.specs.declared.Item.{Item}
 use Rattle.run.specs.declared.Progress.the-variants.{Played}
 use Rattle.run.specs.Run.{onItem, advanced}
 use borrow.Author.Needs.{needs}

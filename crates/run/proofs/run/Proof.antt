@@ -5,7 +5,7 @@ use borrow.Author.Needs.{needs}
 use lib.ListN.{length}
 use Rattle.rules.specs.declared.Board.{Board}
 use Rattle.rules.specs.Record.{State, stateOf}
-use Rattle.session.specs.File.{Session, session}
+use Rattle.files.specs.File.{Session, session}
 use Rattle.run.proofs.Turns.{was-played, was-ended}
 use Rattle.run.proofs.Leaving.{Turn, turn-start, turn-less, turn-next, turn-end}
 use Rattle.run.proofs.run.Statement.{statement}

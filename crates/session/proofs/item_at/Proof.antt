@@ -1,6 +1,6 @@
 use mathlib.Core.Path.{sym, ap, _∙_}
-use Rattle.session.specs.File.{itemAt}
-use Rattle.session.proofs.Given.{item-later}
+use Rattle.files.specs.File.{itemAt}
+use Rattle.files.proofs.Given.{item-later}
 use borrow.Author.Needs.{needs}
 use Rattle.session.proofs.item_at.Statement.{statement}
 use Rattle.session.proofs.item_at.Tie as tie

@@ -1,5 +1,5 @@
 use borrow.Author.Tests.{ne-eqb}
-use Rattle.session.specs.File.{signalOf}
+use Rattle.files.specs.File.{signalOf}
 use Rattle.bridge.proofs.events.signal_of.Statement.{statement}
 use Rattle.bridge.proofs.events.signal_of.Tie as tie
 

@@ -4,7 +4,7 @@ use borrow.Author.Tests.{eqb-true}
 use borrow.Author.Needs.{needs}
 use lib.Dec.{eqb}
 use Rattle.rules.proofs.Choice.{and-both}
-use Rattle.session.specs.File.{byteAt}
+use Rattle.files.specs.File.{byteAt}
 use Rattle.listing.proofs.ahead.load_stands.Statement.{statement}
 use Rattle.listing.proofs.ahead.load_stands.Tie as tie
 

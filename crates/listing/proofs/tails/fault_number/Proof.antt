@@ -1,5 +1,5 @@
 use borrow.Author.Needs.{needs}
-use Rattle.session.specs.File.{faultNumber}
+use Rattle.files.specs.File.{faultNumber}
 use Rattle.listing.proofs.tails.fault_number.Statement.{statement}
 use Rattle.listing.proofs.tails.fault_number.Tie as tie
 

@@ -10,9 +10,9 @@ use Rattle.rules.specs.declared.Core.{Core}
 use Rattle.rules.specs.declared.Ring.{Ring}
 use Rattle.rules.specs.declared.Board.{Board}
 use Rattle.rules.specs.Record.{State, unpowered, stateOf}
-use Rattle.session.specs.File.{Session, session}
-use Rattle.session.proofs.Given.{item-exactly, item-grows}
-use Rattle.session.proofs.Sessions.{stands-within}
+use Rattle.files.specs.File.{Session, session}
+use Rattle.files.proofs.Given.{item-exactly, item-grows}
+use Rattle.files.proofs.Sessions.{stands-within}
 use Rattle.moves.specs.Promises.{lent}
 use Rattle.board.specs.Promises.{Stepped}
 use Rattle.listing.specs.Listing.{listing, left}

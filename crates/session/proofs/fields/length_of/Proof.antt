@@ -1,6 +1,6 @@
 use native.Mathlib.Omega.{arith}
 use borrow.Author.Tests.{ne-eqb, le-leb, lt-leb}
-use Rattle.session.specs.File.{lengthOf}
+use Rattle.files.specs.File.{lengthOf}
 use Rattle.session.proofs.fields.length_of.Statement.{statement}
 use Rattle.session.proofs.fields.length_of.Tie as tie
 

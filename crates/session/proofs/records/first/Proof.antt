@@ -4,8 +4,8 @@ use mathlib.Core.List.{List, [], _∷_}
 use native.Mathlib.Omega.{arith}
 use lib.ListN.{length, getD}
 use denote.Ref.{now}
-use Rattle.session.specs.Laws.{badVersion, first}
-use Rattle.session.proofs.Given.{given-one, stands-given}
+use Rattle.files.specs.Laws.{badVersion, first}
+use Rattle.files.proofs.Given.{given-one, stands-given}
 use borrow.Author.Needs.{needs}
 use Rattle.session.proofs.records.first.Statement.{statement}
 use Rattle.session.proofs.records.first.Tie as tie

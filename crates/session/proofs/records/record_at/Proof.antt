@@ -2,11 +2,11 @@
 use Prim.Native.Nat.{_+_}
 use mathlib.Core.Path.{sym, ap, subst, _∙_}
 use native.Mathlib.Omega.{arith}
-use Rattle.session.specs.declared.Item.the-variants.{Got}
-use Rattle.session.specs.File.{lengthOf}
-use Rattle.session.specs.Laws.{Known, ended, halfLength, shortBody, lengthZero, unknown, lengthWrong, event}
-use Rattle.session.proofs.Lengths.{length-known, zero-unknown}
-use Rattle.session.proofs.Given.{record-given}
+use Rattle.files.specs.declared.Item.the-variants.{Got}
+use Rattle.files.specs.File.{lengthOf}
+use Rattle.files.specs.Laws.{Known, ended, halfLength, shortBody, lengthZero, unknown, lengthWrong, event}
+use Rattle.files.proofs.Lengths.{length-known, zero-unknown}
+use Rattle.files.proofs.Given.{record-given}
 use borrow.Author.Needs.{needs}
 use Rattle.session.proofs.records.record_at.Statement.{statement}
 use Rattle.session.proofs.records.record_at.Tie as tie

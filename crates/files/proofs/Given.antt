@@ -8,12 +8,12 @@ use borrow.Author.Tests.{le-leb, lt-leb, lt-ltb, le-ltb, leb-true, leb-false, lt
 use lib.Dec.{leb, ltb, eqb}
 use lib.ListN.{length}
 use Rattle.rules.proofs.Choice.{cases, cond-true, cond-false}
-use Rattle.session.specs.declared.Item.{Item}
-use Rattle.session.specs.declared.Item.the-variants.{Got, Over}
-use Rattle.session.specs.File.{byteAt, wordAt, lengthOf, wholeRecord, recordAt, itemAt}
-use Rattle.session.specs.Laws.{Known, Whole, Record, ended, halfLength, shortBody, lengthZero, unknown, lengthWrong, event}
-use Rattle.session.specs.Laws.{Stands, badVersion, first, later, Item-exactly, Item-grows}
-use Rattle.session.proofs.Lengths.{known-length, known-some, length-known, unknown-zero, zero-unknown}
+use Rattle.files.specs.declared.Item.{Item}
+use Rattle.files.specs.declared.Item.the-variants.{Got, Over}
+use Rattle.files.specs.File.{byteAt, wordAt, lengthOf, wholeRecord, recordAt, itemAt}
+use Rattle.files.specs.Laws.{Known, Whole, Record, ended, halfLength, shortBody, lengthZero, unknown, lengthWrong, event}
+use Rattle.files.specs.Laws.{Stands, badVersion, first, later, Item-exactly, Item-grows}
+use Rattle.files.proofs.Lengths.{known-length, known-some, length-known, unknown-zero, zero-unknown}
 
 -- ---- A record that is given so is the one
 

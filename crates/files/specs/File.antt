@@ -1,6 +1,7 @@
 -- A session file: what stands at a place of it, which events it holds, and how it ends (01, "Session file and listing").
 --   itemAt s at   the record at a place: an event and the next place, or how the file ends there; place 0 is the start of the file
 --   session s     the events that stand in the file, in order, and how they end
+--   verdict e     that end in numbers
 use Prim.Native.Nat.{ℕ, zero, suc, _+_, _*_}
 use mathlib.Core.Bool.{cond}
 use mathlib.Core.List.{List, [], _∷_}
@@ -12,12 +13,12 @@ use Rattle.rules.specs.declared.Event.the-variants.{PowerUp as powerUp, Write a
 use Rattle.rules.specs.declared.Signal.{Signal}
 use Rattle.rules.specs.declared.Signal.the-variants.{Tick as tick, Outside as outside, Trigger as trigger}
 use Rattle.rules.specs.declared.Signal.the-variants.{Passed as passed, Failed as failed, Settled as settled}
-use Rattle.session.specs.declared.Fault.{Fault}
-use Rattle.session.specs.declared.Fault.the-variants.{Version as version, Cut as cut, Length as wrongLength, Kind as unknownKind}
-use Rattle.session.specs.declared.End.{End}
-use Rattle.session.specs.declared.End.the-variants.{File as fileEnd, Refused as refusedAt}
-use Rattle.session.specs.declared.Item.{Item}
-use Rattle.session.specs.declared.Item.the-variants.{Got as got, Over as over}
+use Rattle.files.specs.declared.Fault.{Fault}
+use Rattle.files.specs.declared.Fault.the-variants.{Version as version, Cut as cut, Length as wrongLength, Kind as unknownKind}
+use Rattle.files.specs.declared.End.{End}
+use Rattle.files.specs.declared.End.the-variants.{File as fileEnd, Refused as refusedAt}
+use Rattle.files.specs.declared.Item.{Item}
+use Rattle.files.specs.declared.Item.the-variants.{Got as got, Over as over}
 
 -- ---- Numbers
 
@@ -28,6 +29,17 @@ faultNumber version = 10
 faultNumber cut = 11
 faultNumber wrongLength = 12
 faultNumber unknownKind = 13
+
+-- how a file ends, in numbers: 01's refusal number, 0 where it ends with its last byte, and "p: byte where the record starts"
+pub record Verdict : Type 0 where
+  pub number : ℕ
+  pub place : ℕ
+
+abbrev pub verdict : End → Verdict
+verdict fileEnd = record { number = 0; place = 0 }
+verdict (refusedAt why p) = record { number = faultNumber why; place = p }
+
+-- ---- Bytes
 
 abbrev pub byteAt : List ℕ → ℕ → ℕ
 byteAt s at = getD s at 0

@@ -9,8 +9,8 @@ use borrow.Author.Tests.{eqb-true, leb-true, le-leb, ne-eqb}
 use lib.Dec.{eqb, leb}
 use lib.ListN.{length}
 use Rattle.rules.proofs.Choice.{cases}
-use Rattle.session.specs.File.{byteAt, lengthOf}
-use Rattle.session.specs.Laws.{Known, powerUp, write, read, signal}
+use Rattle.files.specs.File.{byteAt, lengthOf}
+use Rattle.files.specs.Laws.{Known, powerUp, write, read, signal}
 
 pub known-length : (k n : ℕ) → Known k n → lengthOf k ≡ n
 unfolding lengthOf

@@ -6,11 +6,11 @@ use mathlib.Core.List.{List, [], _∷_}
 use native.Mathlib.Omega.{arith}
 use lib.ListN.{length}
 use Rattle.rules.specs.declared.Event.{Event}
-use Rattle.session.specs.declared.End.{End}
-use Rattle.session.specs.declared.Item.{Item}
-use Rattle.session.specs.declared.Item.the-variants.{Got, Over}
-use Rattle.session.specs.File.{itemAt, Session, onItem, from, session}
-use Rattle.session.proofs.Given.{item-grows}
+use Rattle.files.specs.declared.End.{End}
+use Rattle.files.specs.declared.Item.{Item}
+use Rattle.files.specs.declared.Item.the-variants.{Got, Over}
+use Rattle.files.specs.File.{itemAt, Session, onItem, from, session}
+use Rattle.files.proofs.Given.{item-grows}
 
 pub record Rest (s : List ℕ) (at : ℕ) (x : Session) : Type 0 where
   pub within : at ≤ length s

@@ -4,13 +4,13 @@ use mathlib.Core.Path.{_≡_, subst}
 use mathlib.Core.List.{List}
 use native.Mathlib.Omega.{arith}
 use lib.ListN.{length}
-use Rattle.session.specs.declared.End.{End}
-use Rattle.session.specs.declared.End.the-variants.{File, Refused}
-use Rattle.session.specs.declared.Item.{Item}
-use Rattle.session.specs.declared.Item.the-variants.{Got, Over}
-use Rattle.session.specs.File.{itemAt, onItem, from, session}
-use Rattle.session.specs.Laws.{Record, ended, halfLength, shortBody, lengthZero, unknown, lengthWrong, event, Stands, badVersion, first, later, Session-refused}
-use Rattle.session.proofs.Given.{record-given, stands, stands-given}
+use Rattle.files.specs.declared.End.{End}
+use Rattle.files.specs.declared.End.the-variants.{File, Refused}
+use Rattle.files.specs.declared.Item.{Item}
+use Rattle.files.specs.declared.Item.the-variants.{Got, Over}
+use Rattle.files.specs.File.{itemAt, onItem, from, session}
+use Rattle.files.specs.Laws.{Record, ended, halfLength, shortBody, lengthZero, unknown, lengthWrong, event, Stands, badVersion, first, later, Session-refused}
+use Rattle.files.proofs.Given.{record-given, stands, stands-given}
 
 -- what an item says of the place that it names
 abbrev There : List ℕ → Item → Type 0
