@@ -13,8 +13,8 @@ use crate::board::event;
 use crate::board::set;
 use crate::desk::Desk;
 use crate::desk::cleared;
+use crate::endings;
 use crate::figures;
-use crate::files;
 use crate::print;
 
 pub(crate) fn done(mut desk: Desk) -> Desk {
@@ -54,7 +54,7 @@ fn told(desk: Desk) {
         }
         _ => {
             let bytes = desk.bytes;
-            files::ends(bytes, desk.count);
+            endings::told(bytes, desk.count);
         }
     }
 }

@@ -6,8 +6,8 @@ use line::read;
 mod acts;
 mod board;
 mod desk;
+mod endings;
 mod figures;
-mod files;
 mod line;
 mod print;
 

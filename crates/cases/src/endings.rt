@@ -23,7 +23,7 @@ fn ended(end: End) {
 }
 
 // The first `count` bytes are the file.
-pub(crate) fn ends(bytes: [u8; 16], count: u8) {
+pub(crate) fn told(bytes: [u8; 16], count: u8) {
     let mut memory = [0u32; 8];
     let n = io::count(count as isize, &bytes);
     let r = run::run(&bytes[..n], &mut memory);
