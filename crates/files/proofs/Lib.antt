@@ -5,3 +5,5 @@ pub mod Sessions
 pub mod Rests
 pub mod Walk
 pub mod EveryKind
+pub mod Written
+pub mod Rewritten

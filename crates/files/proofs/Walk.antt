@@ -27,11 +27,11 @@ has-version [] h = absurd (omega (arith, h))
 has-version (x ∷ xs) h = omega arith
 
 -- a place that it comes to is in the file, behind the version byte
-reached-within : (s : List ℕ) (at : ℕ) → Reached s at → (0 < at) × (at ≤ length s)
+pub reached-within : (s : List ℕ) (at : ℕ) → Reached s at → (0 < at) × (at ≤ length s)
 reached-within s at (opened h) = (omega arith, has-version s h)
 reached-within s at (passed p r w k) = (omega arith, w)
 
-reached-item : (s : List ℕ) (at : ℕ) → Reached s at → itemAt s at ≡ recordAt s at
+pub reached-item : (s : List ℕ) (at : ℕ) → Reached s at → itemAt s at ≡ recordAt s at
 reached-item s at r = item-later s at (λ z. omega (arith, (reached-within s at r) .0))
 
 -- from there on the session ends as the whole one
@@ -40,7 +40,7 @@ pub record Onward (s : List ℕ) (at : ℕ) (x : Session) : Type 0 where
   pub ends : x .end ≡ (session s) .end
 
 -- behind a good version byte the whole session stands
-session-opened : (s : List ℕ) → byteAt s 0 ≡ 1 → session s ≡ from (suc (length s)) s 1
+pub session-opened : (s : List ℕ) → byteAt s 0 ≡ 1 → session s ≡ from (suc (length s)) s 1
 unfolding session from itemAt
 session-opened s h = rw (eq-eqb (byteAt s 0) 1 h)
 
@@ -66,7 +66,7 @@ over-ends s at z r h =
     sym (x .1 .ends) ∙ (rest-over s at (x .0) (x .1 .rest) z (reached-item s at r ∙ record-given s at _ h)) .1
 
 -- and without a good version byte at once
-version-ends : (s : List ℕ) → byteAt s 0 ≢ 1 → (session s) .end ≡ Refused Version 0
+pub version-ends : (s : List ℕ) → byteAt s 0 ≢ 1 → (session s) .end ≡ Refused Version 0
 unfolding session from
 version-ends s h = ap (λ (i : Item). (onItem (from (length s) s) i) .end) (stands-given s 0 _ (badVersion h))
 

@@ -4,10 +4,13 @@
 --   Session-refused a file that ends in a refusal is refused so at that place
 --   File-exactly    a file is refused by a number at a place, or not refused, exactly when its walk comes to where 01 says so
 --   Every-kind      which byte is which field
+--   Bytes-read      the record of an event is read as that event, wherever it stands; File-read: so is a file of events
+--   File-written    and what is written of a good file's events is that file
+--   Row-read        the row of an event is read back
 use Prim.Native.Nat.{ℕ, suc, _+_, _≤_, _<_}
 use mathlib.Core.Path.{_≡_}
 use mathlib.Core.Logic.{_≢_, _↔_}
-use mathlib.Core.List.{List, [], _∷_}
+use mathlib.Core.List.{List, [], _∷_, _++_}
 use lib.ListN.{length}
 use Rattle.rules.specs.declared.Event.{Event}
 use Rattle.rules.specs.declared.Event.the-variants.{PowerUp, Write, Read, Signal}
@@ -17,6 +20,8 @@ use Rattle.files.specs.declared.Fault.the-variants.{Version, Cut, Length
 use Rattle.files.specs.declared.End.the-variants.{File, Refused}
 use Rattle.files.specs.declared.Item.{Item}
 use Rattle.files.specs.declared.Item.the-variants.{Got, Over}
+use Rattle.files.specs.Row.{rowOf, eventOfRow}
+use Rattle.files.specs.Bytes.{bytesOf, fileOf, Fits, AllFit}
 use Rattle.files.specs.File.{verdict, byteAt, wordAt, eventAt, itemAt, Session, session}
 
 -- the kinds, each with the length of its records
@@ -109,3 +114,25 @@ pub record EveryKind (x : Session) : Type 0 where
 
 abbrev pub Every-kind : Type 0
 Every-kind = EveryKind (session everyKind)
+
+-- ---- Written and read
+
+-- what is written at a place of a file, behind its version byte, is read there
+abbrev pub Bytes-read : Type 0
+Bytes-read =
+    (xs ys : List ℕ) (e : Event)
+    → Fits e
+    → 0 < length xs
+    → itemAt (xs ++ (bytesOf e ++ ys)) (length xs) ≡ Got e (length xs + length (bytesOf e))
+
+-- a file that is written of events has these events, and no refusal
+abbrev pub File-read : Type 0
+File-read = (es : List Event) → AllFit es → session (fileOf es) ≡ record { events = es; end = File }
+
+-- and a file of bytes that is not refused is what is written of its events
+abbrev pub File-written : Type 0
+File-written = (s : List ℕ) → ((i : ℕ) → byteAt s i < 256) → (session s) .end ≡ File → fileOf ((session s) .events) ≡ s
+
+-- the row of an event is that event's
+abbrev pub Row-read : Type 0
+Row-read = (e : Event) → eventOfRow (rowOf e) ≡ e

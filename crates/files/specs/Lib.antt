@@ -1,2 +1,4 @@
 pub mod File
+pub mod Bytes
+pub mod Row
 pub mod Laws
