@@ -1,5 +1,5 @@
 // What is wrong with a text, in words on standard error: the line, and the word in it.
-ghost use Prim.Native.Nat.{_+_, _≤_};
+ghost use Prim.Native.Nat.{_≤_};
 use libc::STDERR_FILENO;
 
 pub(crate) fn say(text: &[u8]) {
@@ -14,7 +14,8 @@ fn char_at(text: &[u8], at: usize) -> u8 {
     0
 }
 
-fn is_blank(c: u8) -> bool {
+// Blanks end a word, and so does the end of the text.
+fn ends_word(c: u8) -> bool {
     c <= 32
 }
 
@@ -50,7 +51,7 @@ fn next(text: &[u8], at: usize) -> usize {
 fn word_start(text: &[u8], at: usize) -> usize {
     let mut i = at;
     while 0 < i {
-        if is_blank(char_at(text, i - 1)) {
+        if ends_word(char_at(text, i - 1)) {
             return i;
         }
         i -= 1;
@@ -73,7 +74,7 @@ fn say_word(text: &[u8], start: usize) {
     let mut n: usize = 0;
     while n < 24 {
         let c = char_at(text, at);
-        if is_blank(c) {
+        if ends_word(c) {
             return;
         }
         say_char(c);

@@ -19,8 +19,8 @@ sub-char-at c = search needs
 char-at-requires : tie.Need-char-at-requires Inv-loop μ-loop
 char-at-requires c κs = search needs
 
-is-blank-requires : tie.Need-is-blank-requires Inv-loop μ-loop
-is-blank-requires c κs = search needs
+ends-word-requires : tie.Need-ends-word-requires Inv-loop μ-loop
+ends-word-requires c κs = search needs
 
 returns : tie.Need-returns Inv-loop μ-loop
 returns c = search needs
@@ -46,7 +46,7 @@ word-start-spec =
     loop-holds
     sub-char-at
     char-at-requires
-    is-blank-requires
+    ends-word-requires
     returns
     sub-i
     loop-less
