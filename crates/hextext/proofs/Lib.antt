@@ -1,5 +1,3 @@
 -- What the functions' proofs cite; each file opens with what it shows.
 pub mod Rests
 pub mod Unique
-pub mod Table
-pub mod Spelt

@@ -8,10 +8,10 @@ use native.Mathlib.Numerals.{add-one}
 use lib.ListN.{length, take, drop, set, length-append, length-drop, drop-of-length-le}
 use lib.Seq.{set-at, take-all, take-at, append-snoc, drop-cons}
 use borrow.Author.Tests.{lt-leb, le-leb, lt-ltb, le-ltb}
-use Rattle.hextext.specs.declared.marks.Mark.{Mark}
-use Rattle.hextext.specs.declared.marks.Mark.the-variants.{Passed, Byte, Fault}
+use Rattle.notation.specs.declared.Mark.{Mark}
+use Rattle.notation.specs.declared.Mark.the-variants.{Passed, Byte, Fault}
 use Rattle.hextext.specs.declared.Decoded.the-variants.{Bytes, Full, Fault as FaultAt}
-use Rattle.hextext.specs.Hex.{markAt, Stop, whole, bad, Reading, onMark, from, openingOf, reading}
+use Rattle.notation.specs.Hex.{markAt, Stop, whole, bad, Reading, onMark, from, openingOf, reading}
 use Rattle.hextext.specs.Promises.{Decodes, onStop, decoded, laidOver}
 
 -- so far: `done` is in the output, and y is the reading from the place on

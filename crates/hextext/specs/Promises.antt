@@ -7,7 +7,7 @@ use lib.Dec.{ltb}
 use lib.ListN.{length, take, drop}
 use Rattle.hextext.specs.declared.Decoded.{Decoded}
 use Rattle.hextext.specs.declared.Decoded.the-variants.{Bytes, Full, Fault}
-use Rattle.hextext.specs.Hex.{Stop, whole, bad, Reading, reading}
+use Rattle.notation.specs.Hex.{Stop, whole, bad, Reading, reading}
 
 abbrev pub onStop : ℕ → Stop → Decoded
 onStop n whole = Bytes n

@@ -1,8 +1,8 @@
 // Hex text, in which people write session files: the bytes that it says. Every call takes every input.
 ghost use Rattle.hextext.specs.Promises.{Decodes};
-use crate::marks::Mark;
 use crate::marks::mark_at;
 use crate::marks::opening;
+use notation::Mark;
 
 mod marks;
 

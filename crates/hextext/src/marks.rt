@@ -2,14 +2,8 @@
 ghost use Prim.Native.Nat.{_<_};
 ghost use mathlib.Core.Path.{_≡_};
 ghost use lib.ListN.{length};
-ghost use Rattle.hextext.specs.Hex.{charAt, worth, isControl, isBlank, inComment, byteOf, markOf, markAt, openingOf};
-
-// A character that says nothing, and whether what follows is in a comment; the two digits of a byte; or no hex text.
-pub enum Mark {
-    Passed(bool),
-    Byte(u8),
-    Fault,
-}
+ghost use Rattle.notation.specs.Hex.{charAt, worth, isControl, isBlank, inComment, byteOf, markOf, markAt, openingOf};
+use notation::Mark;
 
 // 0 past the end of the text
 fn char_at(text: &[u8], at: usize) -> u8

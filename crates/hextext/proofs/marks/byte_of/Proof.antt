@@ -1,7 +1,7 @@
 -- Each test of the code is one of the definition.
 use borrow.Author.Needs.{needs}
 use borrow.Author.Tests.{lt-ltb, le-ltb}
-use Rattle.hextext.specs.Hex.{byteOf}
+use Rattle.notation.specs.Hex.{byteOf}
 use Rattle.hextext.proofs.marks.byte_of.Statement.{statement}
 use Rattle.hextext.proofs.marks.byte_of.Tie as tie
 

@@ -1,7 +1,7 @@
 -- Each test of the code is one of the definition, in its order.
 use mathlib.Core.Path.{sym, _∙_}
 use borrow.Author.Needs.{needs}
-use Rattle.hextext.specs.Hex.{markOf}
+use Rattle.notation.specs.Hex.{markOf}
 use Rattle.hextext.proofs.marks.mark_of.Statement.{statement}
 use Rattle.hextext.proofs.marks.mark_of.Tie as tie
 

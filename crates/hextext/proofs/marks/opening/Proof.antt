@@ -1,6 +1,6 @@
 -- The three characters are those of the definition.
 use borrow.Author.Needs.{needs}
-use Rattle.hextext.specs.Hex.{openingOf}
+use Rattle.notation.specs.Hex.{openingOf}
 use Rattle.hextext.proofs.marks.opening.Statement.{statement}
 use Rattle.hextext.proofs.marks.opening.Tie as tie
 

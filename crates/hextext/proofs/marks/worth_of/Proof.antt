@@ -3,7 +3,7 @@ use Prim.Native.Nat.{_≤_}
 use native.Mathlib.Omega.{arith}
 use borrow.Author.Tests.{leb-true}
 use Rattle.rules.proofs.Choice.{and-both}
-use Rattle.hextext.specs.Hex.{worth}
+use Rattle.notation.specs.Hex.{worth}
 use Rattle.hextext.proofs.marks.worth_of.Statement.{statement}
 use Rattle.hextext.proofs.marks.worth_of.Tie as tie
 

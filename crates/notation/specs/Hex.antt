@@ -6,8 +6,8 @@ use mathlib.Core.Bool.{Bool, true, false, cond, not, _&&_, _||_}
 use mathlib.Core.List.{List, [], _∷_}
 use lib.Dec.{leb, ltb, eqb}
 use lib.ListN.{length, getD}
-use Rattle.hextext.specs.declared.marks.Mark.{Mark}
-use Rattle.hextext.specs.declared.marks.Mark.the-variants.{Passed, Byte, Fault}
+use Rattle.notation.specs.declared.Mark.{Mark}
+use Rattle.notation.specs.declared.Mark.the-variants.{Passed, Byte, Fault}
 
 -- ---- Characters
 

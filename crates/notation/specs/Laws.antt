@@ -4,7 +4,7 @@ use mathlib.Core.Path.{_≡_}
 use mathlib.Core.Bool.{cond}
 use mathlib.Core.List.{List, [], _∷_}
 use lib.Dec.{ltb}
-use Rattle.hextext.specs.Hex.{whole, reading}
+use Rattle.notation.specs.Hex.{whole, reading}
 
 -- "0" to "9", "A" to "F"
 unfoldable pub digit : ℕ → ℕ

@@ -10,9 +10,9 @@ use lib.ListN.{length, length-append}
 use lib.Seq.{getD-append-seam, getD-append-add}
 use borrow.Author.Tests.{ltb-true, ltb-false, le-ltb, le-leb, lt-leb, ne-eqb}
 use Rattle.rules.proofs.Choice.{cases, cond-false}
-use Rattle.hextext.specs.declared.marks.Mark.the-variants.{Byte}
-use Rattle.hextext.specs.Hex.{worth, byteOf, markOf, markAt, whole, onMark, from, openingOf, reading}
-use Rattle.hextext.specs.Laws.{digit, spelt, AllBytes, none, next, Spelt-read}
+use Rattle.notation.specs.declared.Mark.the-variants.{Byte}
+use Rattle.notation.specs.Hex.{worth, byteOf, markOf, markAt, whole, onMark, from, openingOf, reading}
+use Rattle.notation.specs.Laws.{digit, spelt, AllBytes, none, next, Spelt-read}
 
 -- ---- One byte
 

@@ -2,7 +2,7 @@
 use Prim.Native.Nat.{ℕ}
 use mathlib.Core.Path.{_≡_}
 use mathlib.Core.List.{List, [], _∷_}
-use Rattle.hextext.specs.Hex.{Stop, whole, bad, reading}
+use Rattle.notation.specs.Hex.{Stop, whole, bad, reading}
 
 -- ---- Characters that no line of a document shows
 
