@@ -1,5 +1,5 @@
-//! Replays four sessions many times in one process, through the proved code and through the same model written in Rust for
-//! speed, and prints how many events a second each takes and the ratio of their times.
+//! Replays four sessions many times in one process, through the proved code and through the second model, written in Rust, and
+//! prints how many events a second each takes and the ratio of their times.
 
 mod sessions;
 
@@ -116,7 +116,7 @@ fn measure(name: &str, file: &[u8], rounds: u64) {
     let length = ours.list(file);
     let mut memory = vec![0; MEMORY];
     let mut theirs = Vec::new();
-    swift::list(file, &mut memory, &mut theirs);
+    second::list(file, &mut memory, &mut theirs);
     if theirs != ours.output[..length] {
         eprintln!("{name}: the two listings differ");
         exit(1);
@@ -128,7 +128,7 @@ fn measure(name: &str, file: &[u8], rounds: u64) {
     let mut best_theirs = Duration::MAX;
     for _ in 0..rounds {
         let start = Instant::now();
-        swift::list(black_box(file), &mut memory, &mut theirs);
+        second::list(black_box(file), &mut memory, &mut theirs);
         best_theirs = best_theirs.min(start.elapsed());
         black_box(&theirs);
         let start = Instant::now();

@@ -51,6 +51,7 @@ impl Answer {
 }
 
 /// One event.
+#[inline]
 pub fn step(record: &mut Record, memory: &mut [u32], event: &Event) -> Answer {
     // "On refusal the last three are 0, the given record comes back and memory
     // is unchanged."
@@ -62,7 +63,10 @@ pub fn step(record: &mut Record, memory: &mut [u32], event: &Event) -> Answer {
         };
     }
 
-    let before = record.clone();
+    // "Initialise just sets it." (the request; done in `initialise`): only the
+    // other events ask for what was before them, and power-up asks nothing of
+    // the old record, whatever that is.
+    let before = (!initialises(event)).then(|| interrupt::before(record));
     let mut answer = Answer::done();
 
     match *event {
@@ -86,8 +90,7 @@ pub fn step(record: &mut Record, memory: &mut [u32], event: &Event) -> Answer {
         Event::Settled => record.settling = false,
     }
 
-    // "Initialise just sets it." (the request; done in `initialise`)
-    if !initialises(event) {
+    if let Some(before) = before {
         interrupt::after(&before, record);
     }
     answer

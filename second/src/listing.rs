@@ -1,6 +1,7 @@
 //! What `rehearse` prints.
 
-use crate::event::step;
+use crate::event::{step, Answer};
+use crate::line::{append, hex};
 use crate::record::Record;
 use crate::session::{next, start, Next};
 
@@ -9,59 +10,93 @@ use crate::session::{next, start, Next};
 const LONGEST: usize = 65_536;
 const MEMORY: usize = 16_384;
 
+/// The listing of a file, with a memory of its own.
 pub fn listing(file: &[u8]) -> String {
+    let mut out = Vec::new();
+    list(file, &mut vec![0; MEMORY], &mut out);
+    String::from_utf8(out).expect("a listing is ASCII")
+}
+
+/// The listing of a file, in place of what `out` held. The memory is lent.
+pub fn list(file: &[u8], memory: &mut [u32], out: &mut Vec<u8>) {
+    out.clear();
     // "A longer input prints only `TOO LONG`."
     if file.len() > LONGEST {
-        return String::from("TOO LONG\n");
+        out.extend_from_slice(b"TOO LONG\n");
+        return;
     }
     // "A run starts unpowered"
     let mut record = Record::unpowered();
-    let mut memory = vec![0; MEMORY];
-    let mut text = String::from("REHEARSAL 1\n");
+    out.extend_from_slice(b"REHEARSAL 1\n");
 
     match start(file) {
         // "A file refusal prints `FILE n p` (p: byte where the record starts, 0
         // for refusal 10) before LEVELS."
-        Err(refusal) => text += &format!("FILE {refusal} 0\n"),
-        Ok(place) => text += &lines(file, place, &mut record, &mut memory),
+        Err(refusal) => file_line(refusal, 0, out),
+        Ok(place) => lines(file, place, &mut record, memory, out),
     }
-
-    // "levels in four, channel 00 first; hex in capitals"
-    text += "LEVELS";
-    for level in record.levels {
-        text += &format!(" {level:04X}");
-    }
-    text += "\n";
-    text
+    levels_line(&record.levels, out);
 }
 
 /// One line per record, and the FILE line if there is one.
-fn lines(file: &[u8], mut place: usize, record: &mut Record, memory: &mut [u32]) -> String {
-    let mut text = String::new();
+fn lines(
+    file: &[u8],
+    mut place: usize,
+    record: &mut Record,
+    memory: &mut [u32],
+    out: &mut Vec<u8>,
+) {
     let mut number = 0;
     loop {
         match next(file, place) {
-            Next::End => return text,
+            Next::End => return,
             // "A file refusal stops it, and record and memory stay as the
             // earlier records left them."
-            Next::Refused(refusal, at) => return text + &format!("FILE {refusal} {at}\n"),
+            Next::Refused(refusal, at) => return file_line(refusal, at, out),
             // "goes on past refused events and lost values"
             Next::Event(event, after) => {
                 place = after;
                 number += 1;
                 let answer = step(record, memory, &event);
-                // "Fields: record number, the four answers, count after; the
-                // register value in eight hex digits, the others decimal"
-                text += &format!(
-                    "{} {} {:08X} {} {} {}\n",
-                    number,
-                    answer.refusal,
-                    answer.register,
-                    answer.moved,
-                    answer.fate,
-                    record.count
-                );
+                event_line(number, &answer, record.count, out);
             }
         }
     }
+}
+
+/// "Fields: record number, the four answers, count after; the register value in
+/// eight hex digits, the others decimal".
+#[inline]
+fn event_line(number: u32, answer: &Answer, count: u32, out: &mut Vec<u8>) {
+    append(out, |line| {
+        line.decimal(number);
+        line.bytes([b' ', b'0' + answer.refusal as u8, b' ']);
+        line.bytes(hex::<8>(answer.register));
+        line.bytes([b' ']);
+        line.below_100(answer.moved);
+        line.bytes([b' ', b'0' + answer.fate as u8, b' ']);
+        line.decimal(count);
+        line.bytes([b'\n']);
+    });
+}
+
+/// "A file refusal prints `FILE n p`".
+fn file_line(refusal: u32, place: usize, out: &mut Vec<u8>) {
+    append(out, |line| {
+        line.bytes(*b"FILE ");
+        line.decimal(refusal);
+        line.bytes([b' ']);
+        line.decimal(place as u32);
+        line.bytes([b'\n']);
+    });
+}
+
+/// "levels in four, channel 00 first; hex in capitals"
+fn levels_line(levels: &[u16; 20], out: &mut Vec<u8>) {
+    out.extend_from_slice(b"LEVELS");
+    for level in levels {
+        out.push(b' ');
+        out.extend_from_slice(&hex::<4>(*level as u32));
+    }
+    out.push(b'\n');
 }

@@ -34,6 +34,7 @@ pub(crate) const LENGTH: u32 = 12;
 pub(crate) const KIND: u32 = 13;
 
 /// The refusal of an event, or DONE. `length` is the memory's length.
+#[inline]
 pub(crate) fn refusal(record: &Record, length: usize, event: &Event) -> u32 {
     match *event {
         // "Order: power-up 1, 2 (any old record is accepted)"

@@ -1,7 +1,7 @@
 //! Document 01's bench cases, its printed example, and some checks of rules
 //! that the bench cases leave out.
 
-use second::{listing, rates, step, Answer, Event, Record};
+use second::{list, listing, rates, step, Answer, Event, Record};
 
 const EOF: u32 = 0x1_0000;
 // BOR bits
@@ -410,6 +410,123 @@ fn rehearse_memory() {
     // 16,384 values: d = 11 fits, d = 12 is refused 2.
     let text = listing(&bytes("01 0007010B000000 0000 0007010C000000 0000"));
     assert!(text.starts_with("REHEARSAL 1\n1 0 00000000 0 0 0\n2 2 00000000 0 0 0\nLEVELS 8000 "));
+}
+
+#[test]
+fn lent_memory() {
+    // `list` writes in place of what `out` held, and into the memory lent:
+    // "Only those 17 bits are used or written", "Entries from depth upward are
+    // never touched".
+    let mut memory = [0xDEAD_BEEF; 32];
+    let mut out = b"what it held".to_vec();
+    list(&bytes(EXAMPLE), &mut memory, &mut out);
+    assert_eq!(out, listing(&bytes(EXAMPLE)).into_bytes());
+    assert_eq!(memory[..3], [0x9000, 0x7000, 0xDEAD_BEEF]);
+    // Shorter than the depth: power-up is refused 2, all others 3.
+    list(
+        &bytes("01 00070100000000 0000 000104"),
+        &mut [0; 7],
+        &mut out,
+    );
+    let text = format!(
+        "REHEARSAL 1\n1 2 00000000 0 0 0\n2 3 00000000 0 0 0\n{}",
+        levels("0000", "0000")
+    );
+    assert_eq!(out, text.into_bytes());
+    // d = 12 fits a memory of 32,768 entries, which `listing` does not have.
+    list(&bytes("01 0007010C000000 0000"), &mut [0; 32_768], &mut out);
+    assert!(out.starts_with(b"REHEARSAL 1\n1 0 "));
+    // No file at all.
+    list(&[], &mut [], &mut out);
+    let text = format!("REHEARSAL 1\nFILE 10 0\n{}", levels("0000", "0000"));
+    assert_eq!(out, text.into_bytes());
+    list(&[1; 65_537], &mut [], &mut out);
+    assert_eq!(out, b"TOO LONG\n");
+}
+
+/// The record of an event in a session file.
+fn file_record(event: &Event) -> Vec<u8> {
+    let mut record = match *event {
+        Event::PowerUp {
+            fitted,
+            range,
+            filter,
+            kit,
+            firmware,
+        } => {
+            let settings = [fitted, range, filter, kit].map(|n| n as u8);
+            let firmware = (firmware as u16).to_be_bytes();
+            [&[0, 7, 1], &settings[..], &firmware[..]].concat()
+        }
+        Event::Write { offset, value } => {
+            [&[0, 6, 2, offset as u8], &value.to_be_bytes()[..]].concat()
+        }
+        Event::Read { offset } => vec![0, 2, 3, offset as u8],
+        Event::Tick => vec![4],
+        Event::Outside => vec![5],
+        Event::Trigger => vec![6],
+        Event::Passed => vec![7],
+        Event::Failed => vec![8],
+        Event::Settled => vec![9],
+    };
+    if record.len() == 1 {
+        record.splice(0..0, [0, 1]);
+    }
+    record
+}
+
+#[test]
+fn lines_are_the_answers() {
+    // "Fields: record number, the four answers, count after; the register value
+    // in eight hex digits, the others decimal; levels in four, channel 00 first;
+    // hex in capitals." Long runs, so that every width of a number occurs.
+    let mut dice = Dice(0x00C0_FFEE_1234_5677);
+    let (mut widest, mut letters) = (0, 0);
+    for session in 0..40 {
+        let mut record = Record::unpowered();
+        let mut memory = vec![0; 16_384];
+        let mut file = vec![1];
+        let mut text = String::from("REHEARSAL 1\n");
+        for number in 1..=12_000 {
+            let event = match session {
+                // many values stored
+                0 if number == 1 => Event::PowerUp {
+                    fitted: 11,
+                    range: 0,
+                    filter: 0,
+                    kit: 0,
+                    firmware: 0xABC,
+                },
+                0 if number < 1_200 => Event::Write {
+                    offset: 0x18,
+                    value: number,
+                },
+                // many records
+                0 | 1 => Event::Read { offset: 0x10 },
+                _ => dice.event(),
+            };
+            let bytes = file_record(&event);
+            if file.len() + bytes.len() > 65_536 {
+                break;
+            }
+            file.extend(bytes);
+            let answer = step(&mut record, &mut memory, &event);
+            let line = format!(
+                "{number} {} {:08X} {} {} {}\n",
+                answer.refusal, answer.register, answer.moved, answer.fate, record.count
+            );
+            widest = widest.max(line.len());
+            letters += line.matches(['A', 'B', 'C', 'D', 'E', 'F']).count();
+            text += &line;
+        }
+        text += "LEVELS";
+        for level in record.levels {
+            text += &format!(" {level:04X}");
+        }
+        text += "\n";
+        assert_eq!(listing(&file), text);
+    }
+    assert!(widest >= 25 && letters > 1_000, "{widest} {letters}");
 }
 
 // ---- registers -------------------------------------------------------------

@@ -9,14 +9,8 @@ use Rattle.rules.specs.declared.Event.{Event}
 use Rattle.files.specs.declared.End.{End}
 use Rattle.files.specs.declared.Item.{Item}
 use Rattle.files.specs.declared.Item.the-variants.{Got, Over}
-use Rattle.files.specs.File.{itemAt, Session, onItem, from, session}
+use Rattle.files.specs.File.{itemAt, Session, onItem, from, session, Rest}
 use Rattle.files.proofs.Given.{item-grows}
-
-pub record Rest (s : List ℕ) (at : ℕ) (x : Session) : Type 0 where
-  pub within : at ≤ length s
-  pub fuel : ℕ
-  pub enough : length s < at + fuel
-  pub is : x ≡ from fuel s at
 
 pub rest-start : (s : List ℕ) → Rest s 0 (session s)
 unfolding session

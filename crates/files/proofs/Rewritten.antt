@@ -77,14 +77,20 @@ module _ (s : List ℕ) (bytes : (i : ℕ) → byteAt s i < 256) where
   four-bytes : (p : ℕ) → four (quadAt s p) ≡ two (wordAt s p) ++ two (wordAt s (p + 2))
   four-bytes p = λ i. two (upper-of (wordAt s p) (wordAt s (p + 2)) (word-small (p + 2)) i) ++ two (lower-of (wordAt s p) (wordAt s (p + 2)) (word-small (p + 2)) i)
 
+  b : (p q : ℕ) → p ≡ q → byteAt s p ≡ byteAt s q
+  b p q r = ap (byteAt s) r
+
+  of-kind : (at k : ℕ) → byteAt s (at + 2) ≡ k
+      → eventAt s (at + 2) ≡ eventOf k (byteAt s (at + 2 + 1)) (quadAt s (at + 2 + 2)) (settingsAt s (at + 2 + 1))
+  unfolding eventAt
+  of-kind at k e = ap (λ (m : ℕ). eventOf m (byteAt s (at + 2 + 1)) (quadAt s (at + 2 + 2)) (settingsAt s (at + 2 + 1))) e
+
   record-bytes : (at k n : ℕ) → Known k n → byteAt s (at + 2) ≡ k → wordAt s at ≡ n → part s at (2 + n) ≡ bytesOf (eventAt s (at + 2))
   unfolding part eventAt eventOf
   record-bytes at k n knownPowerUp e w =
-      let b : (p q : ℕ) → p ≡ q → byteAt s p ≡ byteAt s q = λ p q r. ap (byteAt s) r in
       let high : byteAt s at ≡ 0 = omega (arith, w) in
       let low : byteAt s (at + 1) ≡ 7 = omega (arith, w) in
-      let own : eventAt s (at + 2) ≡ powerUp (settingsAt s (at + 2 + 1)) =
-      ap (λ (m : ℕ). eventOf m (byteAt s (at + 2 + 1)) (quadAt s (at + 2 + 2)) (settingsAt s (at + 2 + 1))) e in
+      let own : eventAt s (at + 2) ≡ powerUp (settingsAt s (at + 2 + 1)) = of-kind at _ e in
       let x = settingsAt s (at + 2 + 1) in
       (λ i.
       high i ∷ low i ∷ (b (at + 1 + 1) (at + 2) (omega arith) ∙ e) i
@@ -98,11 +104,9 @@ module _ (s : List ℕ) (bytes : (i : ℕ) → byteAt s i < 256) where
       ∙ (λ i. 0 ∷ 7 ∷ 1 ∷ x .fitted ∷ x .range ∷ x .filter ∷ x .kit ∷ sym (two-bytes (at + 2 + 1 + 4)) i)
       ∙ ap bytesOf (sym own)
   record-bytes at k n knownWrite e w =
-      let b : (p q : ℕ) → p ≡ q → byteAt s p ≡ byteAt s q = λ p q r. ap (byteAt s) r in
       let high : byteAt s at ≡ 0 = omega (arith, w) in
       let low : byteAt s (at + 1) ≡ 6 = omega (arith, w) in
-      let own : eventAt s (at + 2) ≡ write (byteAt s (at + 2 + 1)) (quadAt s (at + 2 + 2)) =
-      ap (λ (m : ℕ). eventOf m (byteAt s (at + 2 + 1)) (quadAt s (at + 2 + 2)) (settingsAt s (at + 2 + 1))) e in
+      let own : eventAt s (at + 2) ≡ write (byteAt s (at + 2 + 1)) (quadAt s (at + 2 + 2)) = of-kind at _ e in
       (λ i.
       high i ∷ low i ∷ (b (at + 1 + 1) (at + 2) (omega arith) ∙ e) i
       ∷ b (at + 1 + 1 + 1) (at + 2 + 1) (omega arith) i
@@ -115,19 +119,16 @@ module _ (s : List ℕ) (bytes : (i : ℕ) → byteAt s i < 256) where
       ∙ (λ i. 0 ∷ 6 ∷ 2 ∷ byteAt s (at + 2 + 1) ∷ sym (four-bytes (at + 2 + 2)) i)
       ∙ ap bytesOf (sym own)
   record-bytes at k n knownRead e w =
-      let b : (p q : ℕ) → p ≡ q → byteAt s p ≡ byteAt s q = λ p q r. ap (byteAt s) r in
       let high : byteAt s at ≡ 0 = omega (arith, w) in
       let low : byteAt s (at + 1) ≡ 2 = omega (arith, w) in
-      let own : eventAt s (at + 2) ≡ read (byteAt s (at + 2 + 1)) =
-      ap (λ (m : ℕ). eventOf m (byteAt s (at + 2 + 1)) (quadAt s (at + 2 + 2)) (settingsAt s (at + 2 + 1))) e in
+      let own : eventAt s (at + 2) ≡ read (byteAt s (at + 2 + 1)) = of-kind at _ e in
       (λ i. high i ∷ low i ∷ (b (at + 1 + 1) (at + 2) (omega arith) ∙ e) i ∷ b (at + 1 + 1 + 1) (at + 2 + 1) (omega arith) i ∷ [])
       ∙ ap bytesOf (sym own)
   record-bytes at k n (knownSignal j a c) e w =
       let high : byteAt s at ≡ 0 = omega (arith, w) in
       let low : byteAt s (at + 1) ≡ 1 = omega (arith, w) in
-      let here : byteAt s (at + 1 + 1) ≡ byteAt s (at + 2) = let r : at + 1 + 1 ≡ at + 2 = omega arith in ap (byteAt s) r in
-      let own : eventAt s (at + 2) ≡ signal (signalOf j) =
-      ap (λ (m : ℕ). eventOf m (byteAt s (at + 2 + 1)) (quadAt s (at + 2 + 2)) (settingsAt s (at + 2 + 1))) e ∙ signal-event j _ _ _ a in
+      let here = b (at + 1 + 1) (at + 2) (omega arith) in
+      let own : eventAt s (at + 2) ≡ signal (signalOf j) = of-kind at _ e ∙ signal-event j _ _ _ a in
       (λ i. high i ∷ low i ∷ (here ∙ e ∙ sym (signal-kind j a c)) i ∷ []) ∙ ap bytesOf (sym own)
 
 -- ---- The whole file

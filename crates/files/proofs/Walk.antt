@@ -13,12 +13,12 @@ use Rattle.files.specs.declared.End.the-variants.{Refused}
 use Rattle.files.specs.declared.Fault.the-variants.{Version}
 use Rattle.files.specs.declared.Item.{Item}
 use Rattle.files.specs.declared.Item.the-variants.{Over}
-use Rattle.files.specs.File.{faultNumber, Verdict, verdict, byteAt, recordAt, itemAt, Session, onItem, from, session}
+use Rattle.files.specs.File.{faultNumber, Verdict, verdict, byteAt, recordAt, itemAt, Session, onItem, from, session, Rest}
 use Rattle.files.specs.Laws.{Record, ended, halfLength, shortBody, lengthZero, unknown, lengthWrong, event, badVersion}
 use Rattle.files.specs.Laws.{Reached, opened, passed, FileGiven, notOpened, inLength, inBody, zeroLength, unknownKind, wrongLength, done, File-exactly}
 use Rattle.files.proofs.Lengths.{known-some}
 use Rattle.files.proofs.Given.{record-given, given-one, stands-given, item-later}
-use Rattle.files.proofs.Rests.{Rest, rest-got, rest-over}
+use Rattle.files.proofs.Rests.{rest-got, rest-over}
 
 -- ---- Where the walk comes to
 

@@ -2,7 +2,9 @@
 --   itemAt s at   the record at a place: an event and the next place, or how the file ends there; place 0 is the start of the file
 --   session s     the events that stand in the file, in order, and how they end
 --   verdict e     that end in numbers
-use Prim.Native.Nat.{ℕ, zero, suc, _+_, _*_}
+--   Rest s at x   x is the session from a place on
+use Prim.Native.Nat.{ℕ, zero, suc, _+_, _*_, _≤_, _<_}
+use mathlib.Core.Path.{_≡_}
 use mathlib.Core.Bool.{cond}
 use mathlib.Core.List.{List, [], _∷_}
 use lib.Dec.{leb, ltb, eqb}
@@ -131,3 +133,10 @@ from (suc f) s at = onItem (from f s) (itemAt s at)
 -- a file has fewer records than bytes
 unfoldable pub session : List ℕ → Session
 session s = from (suc (length s)) s 0
+
+-- x is the session from a place on, as a loop over the records has it before it
+pub record Rest (s : List ℕ) (at : ℕ) (x : Session) : Type 0 where
+  pub within : at ≤ length s
+  pub fuel : ℕ
+  pub enough : length s < at + fuel
+  pub is : x ≡ from fuel s at

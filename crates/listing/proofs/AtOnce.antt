@@ -39,26 +39,26 @@ use Rattle.moves.proofs.Entries.{load-whole}
 use Rattle.board.specs.Promises.{Stepped}
 use Rattle.board.proofs.Standing.{stands-ready}
 use Rattle.board.proofs.Whole.{done-stepped}
-use Rattle.listing.specs.Shortcuts.{aheadEvent, takes, ticks, quick, boardWith, Kept}
+use Rattle.listing.specs.Shortcuts.{commonEvent, takes, ticks, quick, boardWith, InRun}
 
 -- ---- The states of a run
 
-pub kept-step : (s : State) (e : Event) → Kept s → Kept ((step s e) .state)
+pub in-run-step : (s : State) (e : Event) → InRun s → InRun ((step s e) .state)
 unfolding refused
-kept-step s (PowerUp x) k = step-cases (λ (o : Outcome). Kept (o .state)) s (PowerUp x) (λ z _. up-stands s x z) (λ _. k)
-kept-step s (Write o v) k = step-cases (λ (o : Outcome). Kept (o .state)) s (Write o v) (λ z _. done-stands s (Write o v) tt (refusal-stands s (Write o v) tt z)) (λ _. k)
-kept-step s (Read o) k = step-cases (λ (o : Outcome). Kept (o .state)) s (Read o) (λ z _. done-stands s (Read o) tt (refusal-stands s (Read o) tt z)) (λ _. k)
-kept-step s (signal x) k = step-cases (λ (o : Outcome). Kept (o .state)) s (signal x) (λ z _. done-stands s (signal x) tt (refusal-stands s (signal x) tt z)) (λ _. k)
+in-run-step s (PowerUp x) k = step-cases (λ (o : Outcome). InRun (o .state)) s (PowerUp x) (λ z _. up-stands s x z) (λ _. k)
+in-run-step s (Write o v) k = step-cases (λ (o : Outcome). InRun (o .state)) s (Write o v) (λ z _. done-stands s (Write o v) tt (refusal-stands s (Write o v) tt z)) (λ _. k)
+in-run-step s (Read o) k = step-cases (λ (o : Outcome). InRun (o .state)) s (Read o) (λ z _. done-stands s (Read o) tt (refusal-stands s (Read o) tt z)) (λ _. k)
+in-run-step s (signal x) k = step-cases (λ (o : Outcome). InRun (o .state)) s (signal x) (λ z _. done-stands s (signal x) tt (refusal-stands s (signal x) tt z)) (λ _. k)
 
 -- ---- Which event it is
 
-pub load-ahead : (kind v : ℕ) → kind ≡ 1 → _≡_ {A = Event} (aheadEvent kind v) (Write 0x18 v)
-unfolding aheadEvent
-load-ahead kind v h = rw h
+pub load-common : (kind v : ℕ) → kind ≡ 1 → _≡_ {A = Event} (commonEvent kind v) (Write 0x18 v)
+unfolding commonEvent
+load-common kind v h = rw h
 
-pub tick-ahead : (kind v : ℕ) → kind ≡ 2 → _≡_ {A = Event} (aheadEvent kind v) (signal Tick)
-unfolding aheadEvent
-tick-ahead kind v h = rw h
+pub tick-common : (kind v : ℕ) → kind ≡ 2 → _≡_ {A = Event} (commonEvent kind v) (signal Tick)
+unfolding commonEvent
+tick-common kind v h = rw h
 
 pub quick-load : (b : Board) (d kind : ℕ) → quick b d kind ≡ true → kind ≡ 1 → (b .core .powered ≡ true) × (takes b d ≡ true)
 unfolding quick

@@ -1,5 +1,5 @@
-pub mod Pieces
 pub mod Listing
 pub mod Shortcuts
+pub mod Desk
 pub mod Promises
 pub mod Unique

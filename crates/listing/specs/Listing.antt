@@ -1,9 +1,8 @@
 -- The listing of a session file (01, "Session file and listing").
 --   lines k os     a line for each outcome, numbered from k
---   tail end ls    how it ends: the line of a file refusal, if there is one, and the levels
+--   body k st x    the lines of the session x, played on the state st, and how the listing ends
 --   listing s m    the whole listing of the file s on a board with the sample memory m
---   left s m       the board and the memory that the session leaves
-use Prim.Native.Nat.{ℕ, _+_, _*_, _^_, _<_}
+use Prim.Native.Nat.{ℕ, _+_, _*_}
 use mathlib.Core.Bool.{cond}
 use mathlib.Core.List.{List, [], _∷_, _++_}
 use lib.Dec.{ltb}
@@ -12,9 +11,8 @@ use Rattle.rules.specs.Record.{State, start}
 use Rattle.rules.specs.Step.{Outcome}
 use Rattle.rules.specs.Session.{outcomes, after}
 use Rattle.files.specs.declared.End.{End}
-use Rattle.files.specs.declared.End.the-variants.{File, Refused}
-use Rattle.files.specs.File.{verdict, session}
-use Rattle.text.specs.Text.{heading, tooLong, line, levelsLine, fileLine}
+use Rattle.files.specs.File.{Session, session, verdict}
+use Rattle.text.specs.Text.{heading, tooLong, line, tail}
 
 -- ---- The parts
 
@@ -22,22 +20,19 @@ unfoldable pub lines : ℕ → List Outcome → List ℕ
 lines k [] = []
 lines k (o ∷ os) = line k (o .answer) (o .state .board .ring .count) ++ lines (k + 1) os
 
-abbrev pub ending : End → List ℕ
-ending File = []
-ending (Refused why p) = fileLine ((verdict (Refused why p)) .number) ((verdict (Refused why p)) .place)
+abbrev pub levelsOf : State → List ℕ
+levelsOf st = st .board .core .outputs .levels
 
-unfoldable pub tail : End → List ℕ → List ℕ
-tail end levels = ending end ++ levelsLine levels
+unfoldable pub ending : End → List ℕ → List ℕ
+ending end levels = tail ((verdict end) .number) ((verdict end) .place) levels
+
+abbrev pub body : ℕ → State → Session → List ℕ
+body k st x = lines k (outcomes st (x .events)) ++ ending (x .end) (levelsOf (after st (x .events)))
 
 -- ---- The whole
 
-unfoldable pub left : List ℕ → List ℕ → State
-left s m = after (start m) ((session s) .events)
-
 unfoldable pub listing : List ℕ → List ℕ → List ℕ
-listing s m =
-    heading
-    ++ (lines 1 (outcomes (start m) ((session s) .events)) ++ tail ((session s) .end) ((left s m) .board .core .outputs .levels))
+listing s m = heading ++ body 1 (start m) (session s)
 
 -- ---- What is written
 
@@ -50,15 +45,8 @@ text s m = cond (ltb longest (length s)) tooLong (listing s m)
 
 -- a file that is too long is not run
 unfoldable pub memoryAfter : List ℕ → List ℕ → List ℕ
-memoryAfter s m = cond (ltb longest (length s)) m ((left s m) .memory)
+memoryAfter s m = cond (ltb longest (length s)) m ((after (start m) ((session s) .events)) .memory)
 
 -- how long an output has to be for a file of n bytes: a record has three bytes or more, and its line sixty-four or fewer
 unfoldable pub room : ℕ → ℕ
 room n = cond (ltb longest n) 9 (160 + 22 * n)
-
--- ---- For the code
-
--- the place of a refusal is printed as a number of 32 bits
-abbrev pub InReach : End → Type 0
-InReach File = Unit {0}
-InReach (Refused why p) = p < 2 ^ 32

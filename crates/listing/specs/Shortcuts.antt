@@ -1,11 +1,11 @@
 -- Events that the loop over a session does at once, and what of the board they change. For the code.
---   aheadEvent k v    the event ahead, by its kind and its value
+--   commonEvent k v   the event that `Common` tells, by its kind and its value
 --   takes b d         the board b, of d values, stores the next load, and that changes its ring alone
 --   ticks c           a tick is accepted
---   quick b d k       the event ahead, of the kind k, can be done at once
+--   quick b d k       the event of the kind k can be done at once
 --   boardWith b ls    the board b with the levels ls
 --   boardOf b r ls    the board b with what is new in r, and the levels ls
---   Kept s            the states of a run: not powered, or sound over enough memory
+--   InRun s           the states of a run: not powered, or sound over enough memory
 use Prim.Native.Nat.{ℕ}
 use mathlib.Core.Path.{_≡_}
 use mathlib.Core.Bool.{Bool, true, not, cond, _&&_}
@@ -27,9 +27,9 @@ use Rattle.listing.specs.declared.shortcuts.Change.{Change}
 
 -- ---- Which events
 
--- what `Ahead` tells: 1 a write of v to 18h, 2 a tick
-unfoldable pub aheadEvent : ℕ → ℕ → Event
-aheadEvent kind v = cond (eqb kind 1) (Write 0x18 v) (signal Tick)
+-- 1 a write of v to 18h, 2 a tick
+unfoldable pub commonEvent : ℕ → ℕ → Event
+commonEvent kind v = cond (eqb kind 1) (Write 0x18 v) (signal Tick)
 
 -- No interrupt is selected, so that no edge can come of it; the active buffer is the whole one.
 unfoldable pub takes : Board → ℕ → Bool
@@ -49,17 +49,17 @@ quick b d kind = cond (eqb kind 1) (b .core .powered && takes b d) (b .core .pow
 abbrev pub boardWith : Board → List ℕ → Board
 boardWith b ls = record { core = lent (b .core) ls; size = b .size; request = b .request; ring = b .ring }
 
-abbrev pub coreOf : Core → Change → List ℕ → Core
-coreOf c r ls =
+abbrev pub coreWith : Core → Change → List ℕ → Core
+coreWith c r ls =
     withBurst (r .burst)
     (withLoad (r .load)
     (withOutputs (record { mask = c .outputs .mask; cursor = r .cursor; levels = ls }) c))
 
 abbrev pub boardOf : Board → Change → List ℕ → Board
-boardOf b r ls = record { core = coreOf (b .core) r ls; size = b .size; request = b .request; ring = r .ring }
+boardOf b r ls = record { core = coreWith (b .core) r ls; size = b .size; request = b .request; ring = r .ring }
 
 abbrev pub replyOf : Board → Change → List ℕ → Reply
 replyOf b r ls = record { answer = record { refusal = 0; register = 0; moved = r .moved; fate = r .fate }; board = boardOf b r ls }
 
-abbrev pub Kept : State → Type 0
-Kept s = s .board .core .powered ≡ true → Stands s
+abbrev pub InRun : State → Type 0
+InRun s = s .board .core .powered ≡ true → Stands s

@@ -1,11 +1,10 @@
 // The listing of a session file as bytes in a lent output. Every call takes every input.
 ghost use Rattle.listing.specs.Promises.{Lists};
-use crate::lines::put_too_long;
 use crate::whole::put_listing;
+use lines::put_text;
 
-mod ahead;
-mod lines;
-mod pieces;
+mod hurry;
+mod parts;
 mod shortcuts;
 mod tails;
 mod whole;
@@ -25,7 +24,7 @@ pub fn list(s: &[u8], memory: &mut [u32], out: &mut [u8]) -> Listed
         if out.len() < 9 {
             return Listed::Short(9);
         }
-        return Listed::Text(put_too_long(out, 0));
+        return Listed::Text(put_text(out, 0, b"TOO LONG\n"));
     }
     let room = 160 + 22 * s.len();
     if out.len() < room {

@@ -1,11 +1,14 @@
 // The commonest events of a session, a load that is stored and a tick that is accepted, as the few parts of the board that they
 // change: the loop over a session then need not hand the whole record to `step` and back.
 ghost use mathlib.Core.Path.{_≡_};
+ghost use mathlib.Core.Logic.{_≢_};
 ghost use mathlib.Core.Bool.{true};
+ghost use Rattle.rules.specs.declared.Event.the-variants.{Write, Signal as signal};
 ghost use Rattle.record.specs.Promises.{DepthTold};
 ghost use Rattle.board.specs.Promises.{Stepped};
-ghost use Rattle.listing.specs.Shortcuts.{aheadEvent, takes, ticks, quick, boardWith, replyOf, Kept};
+ghost use Rattle.listing.specs.Shortcuts.{commonEvent, takes, ticks, quick, boardWith, replyOf, InRun};
 ghost use Rattle.rules.specs.Record.{stateOf};
+ghost use Rattle.run.specs.declared.Ahead.the-variants.{Found};
 use channels::serve;
 use moves::Frame;
 use moves::deal;
@@ -14,8 +17,70 @@ use record::closed;
 use rules::Board;
 use rules::Burst;
 use rules::Core;
+use rules::Event;
 use rules::Load;
 use rules::Ring;
+use rules::Signal;
+use run::Ahead;
+use run::Cursor;
+
+// What stands ahead, if it is a load or a tick, as numbers: 1 a write of the value to 18h, 2 a tick, and the cursor after it; 0 anything
+// else.
+pub(crate) struct Common {
+    pub kind: u32,
+    pub value: u32,
+    pub after: Cursor,
+}
+
+pub(crate) fn other() -> Common
+    ensures { λ r. ⌜ r .kind ≡ 0 ⌝ }
+{
+    Common {
+        kind: 0,
+        value: 0,
+        after: Cursor { place: 0 },
+    }
+}
+
+pub(crate) fn written(offset: u32, value: u32, after: Cursor) -> Common
+    ensures { λ r. ⌜ (r .kind ≢ 0 → Found (Write offset value) after ≡ Found (commonEvent (r .kind) (r .value)) (r .after)) ⌝ }
+{
+    if offset == 24 {
+        return Common {
+            kind: 1,
+            value: value,
+            after: after,
+        };
+    }
+    other()
+}
+
+pub(crate) fn signalled(x: Signal, after: Cursor) -> Common
+    ensures { λ r. ⌜ (r .kind ≢ 0 → Found (signal x) after ≡ Found (commonEvent (r .kind) (r .value)) (r .after)) ⌝ }
+{
+    match x {
+        Signal::Tick => Common {
+            kind: 2,
+            value: 0,
+            after: after,
+        },
+        _ => other(),
+    }
+}
+
+pub(crate) fn common_of(n: Ahead) -> Common
+    ensures { λ r. ⌜ (r .kind ≢ 0 → n ≡ Found (commonEvent (r .kind) (r .value)) (r .after)) ⌝ }
+{
+    match n {
+        Ahead::Found(e, after) => match e {
+            Event::Write { offset, value } => written(offset, value, after),
+            Event::Signal(x) => signalled(x, after),
+            Event::PowerUp(_) => other(),
+            Event::Read { offset: _ } => other(),
+        },
+        Ahead::Over(_) => other(),
+    }
+}
 
 // What an event that was done at once changed beside the levels, and its answers.
 pub(crate) struct Change {
@@ -44,7 +109,7 @@ pub(crate) fn ticks(c: Core) -> bool
     (c.control.selection == 0) & (accepted & true)
 }
 
-// Whether the event ahead is one that can be done at once.
+// Whether the event of a kind can be done at once.
 pub(crate) fn quick(b: Board, d: u32, kind: u32) -> bool
     ensures { λ r. ⌜ r ≡ quick b d kind ⌝ }
 {
@@ -55,7 +120,7 @@ pub(crate) fn quick(b: Board, d: u32, kind: u32) -> bool
     b.core.powered & ((kind == 2) & ticks(core))
 }
 
-// The event ahead, done on a board of a run whose levels are lent.
+// The event, done on a board of a run whose levels are lent.
 pub(crate) fn at_once(
     b: Board,
     d: u32,
@@ -64,8 +129,8 @@ pub(crate) fn at_once(
     levels: &mut [u16; 20],
     memory: &mut [u32],
 ) -> Change
-    requires { ⌜ DepthTold b d × (quick b d kind ≡ true) × Kept (stateOf (boardWith b (now levels)) (now memory)) ⌝ }
-    ensures { λ r. ⌜ Stepped (boardWith b (now (levels .entry))) (now (memory .entry)) (aheadEvent kind value) (replyOf b r (now (levels .exit))) (now (memory .exit)) ⌝ }
+    requires { ⌜ DepthTold b d × (quick b d kind ≡ true) × InRun (stateOf (boardWith b (now levels)) (now memory)) ⌝ }
+    ensures { λ r. ⌜ Stepped (boardWith b (now (levels .entry))) (now (memory .entry)) (commonEvent kind value) (replyOf b r (now (levels .exit))) (now (memory .exit)) ⌝ }
 {
     let core = b.core;
     let ring = b.ring;

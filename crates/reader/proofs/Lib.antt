@@ -1,2 +1,3 @@
 -- What is proved beside the functions.
+pub mod Commonest
 pub mod Unique

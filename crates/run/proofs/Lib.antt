@@ -1,4 +1,5 @@
--- What the functions' proofs cite; each file opens with what it shows.
-pub mod Turns
-pub mod Leaving
+-- What the functions' proofs cite, and those of other crates' loops: each file opens with what it shows.
+pub mod Ways
+pub mod Played
+pub mod Left
 pub mod Unique

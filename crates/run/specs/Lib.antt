@@ -1,3 +1,4 @@
 pub mod Run
+pub mod Way
 pub mod Promises
 pub mod Unique

@@ -7,9 +7,14 @@ use Rattle.rules.specs.Record.{stateOf, start}
 use Rattle.rules.specs.Session.{after}
 use Rattle.files.specs.File.{session}
 use Rattle.run.specs.declared.Cursor.{Cursor}
+use Rattle.run.specs.declared.Ahead.{Ahead}
 use Rattle.run.specs.declared.Advanced.{Advanced}
 use Rattle.run.specs.declared.Ran.{Ran}
-use Rattle.run.specs.Run.{advanced}
+use Rattle.run.specs.Run.{found, advanced}
+
+-- what stands in the file s at the cursor
+pub record Tells (s : List ℕ) (c : Cursor) (r : Ahead) : Type 0 where
+  pub told : r ≡ found s c
 
 -- one record of the file s
 pub record Advances (s : List ℕ) (c : Cursor) (b : Board) (m : List ℕ) (r : Advanced) (m′ : List ℕ) : Type 0 where

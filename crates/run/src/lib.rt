@@ -1,17 +1,26 @@
-// A run over a session file. `advance` is one record of it, and stands under every loop over a session; `run` is that loop.
+// The way through a session file. `next` tells what stands at a cursor, and every loop over a session goes from event to event by it;
+// `advance` is `next` and `step`, one record played; `run` is the plain loop over `advance`. A loop that has to see the event, as that of
+// crate `listing`, uses `next` and `step`. The law of all these loops is in specs/Way.antt.
 ghost use Rattle.record.specs.Promises.{Unpowered};
-ghost use Rattle.run.specs.Promises.{Advances, Runs};
+ghost use Rattle.run.specs.Promises.{Tells, Advances, Runs};
 use board::step;
 use files::End;
 use files::Item;
-use reader::read_at;
+use reader::look;
 use record::unpowered;
 use rules::Answer;
 use rules::Board;
+use rules::Event;
 
 // How far a session has been read.
 pub struct Cursor {
     pub place: usize,
+}
+
+// What stands at a cursor: an event, and the cursor after it; or how the file ends.
+pub enum Ahead {
+    Found(Event, Cursor),
+    Over(End),
 }
 
 // One record: the event's answer and the cursor after it; or how the file ends.
@@ -31,23 +40,34 @@ pub struct Ran {
     pub board: Board,
 }
 
+// The event at the cursor, or how the file ends.
+pub fn next(s: &[u8], c: Cursor) -> Ahead
+    ensures { λ r. ⌜ Tells (now (s .entry)) c r ⌝ }
+{
+    let item = look(s, c.place);
+    match item {
+        Item::Got(e, place) => Ahead::Found(e, Cursor { place: place }),
+        Item::Over(end) => Ahead::Over(end),
+    }
+}
+
 // The record at the cursor, played on a board and its sample memory. Where the file ends the board comes back as it was given.
 pub fn advance(s: &[u8], c: Cursor, b: Board, memory: &mut [u32]) -> Advanced
     ensures { λ r. ⌜ Advances (now (s .entry)) c b (now (memory .entry)) r (now (memory .exit)) ⌝ }
 {
-    let item = read_at(s, c.place);
-    match item {
-        Item::Got(e, next) => {
+    let n = next(s, c);
+    match n {
+        Ahead::Found(e, after) => {
             let r = step(b, memory, e);
             let answer = r.answer;
-            let after = r.board;
+            let left = r.board;
             Advanced {
-                progress: Progress::Played(answer, Cursor { place: next }),
-                board: after,
+                progress: Progress::Played(answer, after),
+                board: left,
             }
         }
-        Item::Over(x) => Advanced {
-            progress: Progress::Ended(x),
+        Ahead::Over(end) => Advanced {
+            progress: Progress::Ended(end),
             board: b,
         },
     }

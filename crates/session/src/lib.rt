@@ -1,7 +1,10 @@
 // Session files: the record at a place of the lent file bytes. Every call takes every input.
 ghost use Rattle.session.specs.Promises.{ItemTold};
-use crate::records::first;
+use crate::records::behind;
+use crate::records::opened;
 use crate::records::record_at;
+use crate::records::refused;
+use files::Fault;
 use files::Item;
 
 mod fields;
@@ -11,8 +14,8 @@ mod records;
 pub fn item_at(s: &[u8], at: usize) -> Item
     ensures { λ r. ⌜ ItemTold (now (s .entry)) at r ⌝ }
 {
-    if at == 0 {
-        return first(s);
+    if (at == 0) & !opened(s) {
+        return refused(Fault::Version, 0);
     }
-    record_at(s, at)
+    record_at(s, behind(at))
 }

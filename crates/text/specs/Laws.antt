@@ -1,11 +1,11 @@
--- The numbers of the listing in other words: read back, digit by digit, they are the number again.
+-- The numbers of the listing in other words: read back, digit by digit, they are the number again. And how a listing ends, byte by byte.
 use Prim.Native.Nat.{ℕ, zero, _+_, _*_, _-_, _^_, _<_}
 use mathlib.Core.Path.{_≡_}
 use mathlib.Core.Bool.{cond}
 use mathlib.Core.List.{List, [], _∷_}
 use lib.Dec.{ltb}
 use lib.ListN.{length, getD}
-use Rattle.text.specs.Text.{decimal, hex}
+use Rattle.text.specs.Text.{decimal, hex, tail}
 
 -- what a digit of either kind stands for
 unfoldable pub worth : ℕ → ℕ
@@ -28,3 +28,14 @@ Hex-said = (k n : ℕ) → n < 16 ^ k → said 16 0 (hex k n) ≡ n
 
 abbrev pub Hex-long : Type 0
 Hex-long = (k n : ℕ) → length (hex k n) ≡ k
+
+-- "FILE 12 305", "LEVELS 0000 BEEF"
+abbrev pub Tail-refused : Type 0
+Tail-refused =
+    tail 12 305 (0x0000 ∷ 0xBEEF ∷ [])
+    ≡ 70 ∷ 73 ∷ 76 ∷ 69 ∷ 32 ∷ 49 ∷ 50 ∷ 32 ∷ 51 ∷ 48 ∷ 53 ∷ 10 ∷
+    76 ∷ 69 ∷ 86 ∷ 69 ∷ 76 ∷ 83 ∷ 32 ∷ 48 ∷ 48 ∷ 48 ∷ 48 ∷ 32 ∷ 66 ∷ 69 ∷ 69 ∷ 70 ∷ 10 ∷ []
+
+-- "LEVELS BEEF": no refusal, and no line of one
+abbrev pub Tail-plain : Type 0
+Tail-plain = tail 0 0 (0xBEEF ∷ []) ≡ 76 ∷ 69 ∷ 86 ∷ 69 ∷ 76 ∷ 83 ∷ 32 ∷ 66 ∷ 69 ∷ 69 ∷ 70 ∷ 10 ∷ []

@@ -1,4 +1,6 @@
+use native.Mathlib.Omega.{arith}
 use borrow.Author.Needs.{needs}
+use Rattle.lines.proofs.Joined.{printed-piece}
 use Rattle.listing.proofs.Answers.{too-short, room-long, long-written, room-file, file-written}
 use Rattle.listing.proofs.list.Statement.{statement}
 use Rattle.listing.proofs.list.Tie as tie
@@ -8,16 +10,21 @@ returns c =
     let a = c .before .before .before .before .before .args in
     too-short (a .s .now) (a .memory .now) (a .out .now) 9 (room-long (a .s .now) (a .memory .now) (a .out .now) (c .before .if1 .taken)) (c .if2 .taken)
 
-put-too-long-requires : tie.Need-put-too-long-requires
-put-too-long-requires c κs = search needs
+slice-aggregate-put-text : tie.Need-slice-aggregate-put-text
+slice-aggregate-put-text c = search needs
+
+put-text-requires : tie.Need-put-text-requires
+put-text-requires c κs = tt
 
 same-length : tie.Need-same-length
 same-length c = search needs
 
 returns-2 : tie.Need-returns-2
 returns-2 c =
-    let a = c .before .before .before .before .before .before .before .before .before .args in
-    long-written (a .s .now) (a .memory .now) (a .out .now) _ _ (c .before .before .before .before .before .if1 .taken) (c .before .before .before .before .if2 .left) (c .before .before .put-too-long .ensures)
+    let z = c .before .before .before .before .before in
+    let a = z .before .before .before .before .before .args in
+    let put = printed-piece (c .before .before .put-text .ensures) (omega (arith, z .if2 .left)) in
+    long-written (a .s .now) (a .memory .now) (a .out .now) _ _ (z .before .if1 .taken) (z .if2 .left) put
 
 mul-room : tie.Need-mul-room
 mul-room c = search needs
@@ -49,7 +56,8 @@ list-spec =
     tie.close
     (tie.spec
     returns
-    put-too-long-requires
+    slice-aggregate-put-text
+    put-text-requires
     same-length
     returns-2
     mul-room

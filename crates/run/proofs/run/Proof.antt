@@ -1,18 +1,19 @@
--- At each turn the session from the cursor on, played on the state, leaves what the whole one leaves on the unpowered board.
+-- The loop is on its way (specs/Way.antt) with the state that it holds.
 use mathlib.Core.Path.{_≡_, refl, sym, ap, subst, _∙_}
 use Prim.Native.Nat.{_-_}
 use borrow.Author.Needs.{needs}
 use lib.ListN.{length}
 use Rattle.rules.specs.declared.Board.{Board}
-use Rattle.rules.specs.Record.{State, stateOf}
-use Rattle.files.specs.File.{Session, session}
-use Rattle.run.proofs.Turns.{was-played, was-ended}
-use Rattle.run.proofs.Leaving.{Turn, turn-start, turn-less, turn-next, turn-end}
+use Rattle.rules.specs.Record.{State, stateOf, start}
+use Rattle.run.specs.Way.{Way}
+use Rattle.run.proofs.Ways.{way-start, way-on, way-over, way-ends}
+use Rattle.run.proofs.Played.{was-played, was-ended}
+use Rattle.run.proofs.Left.{Outcome, Leaves, played, ended}
 use Rattle.run.proofs.run.Statement.{statement}
 use Rattle.run.proofs.run.Tie as tie
 
 abbrev Inv-loop : tie.InvT-loop
-Inv-loop s memory₀ b₀ c₀ memory b c = (length memory ≡ length memory₀) × (x : Session) × Turn s memory₀ (stateOf b memory) (c .place) x
+Inv-loop s memory₀ b₀ c₀ memory b c = (length memory ≡ length memory₀) × Way Leaves s (start memory₀) (stateOf b memory) c
 
 abbrev μ-loop : tie.MeasureT-loop
 μ-loop s memory₀ b₀ c₀ memory b c = length s - c .place
@@ -23,9 +24,9 @@ start-requires c κs = tt
 loop-holds : tie.Need-loop-holds Inv-loop μ-loop
 loop-holds c =
     let a = c .before .before .before .args in
-    let t = turn-start (a .s .now) (a .memory .now) in
+    let w = way-start Outcome State Leaves (a .s .now) (start (a .memory .now)) in
     let q = ap (λ (b : Board). stateOf b (a .memory .now)) (c .start .ensures .board) in
-    (refl, session (a .s .now), subst (λ (st : State). Turn (a .s .now) (a .memory .now) st 0 (session (a .s .now))) (sym q) t)
+    (refl, subst (λ (st : State). Way Leaves (a .s .now) (start (a .memory .now)) st (record { place = 0 })) (sym q) w)
 
 advance-requires : tie.Need-advance-requires Inv-loop μ-loop
 advance-requires c κs = tt
@@ -35,42 +36,46 @@ enum-known-p c = search needs
 
 loop-less : tie.Need-loop-less Inv-loop μ-loop
 loop-less c =
-    let a = c .before .before .before .before .before .before .before .before .before .before .before .before .args in
-    let l = c .before .before .before .before .before .before .before .before .loop in
-    let st = stateOf (l .b) (l .memory) in
-    let r = c .before .before .before .before .before .before .advance .ensures in
-    let w = was-played (a .s .now) (l .c) st _ _ (sym (r .progress) ∙ c .before .p .given .1) in
-    turn-less (a .s .now) (l .c .place) (w .0) _ (w .1 .stood)
+    let z = c .before .before .before .before .before .before in
+    let a = z .before .before .before .before .before .before .args in
+    let l = z .before .before .loop in
+    let w = was-played (a .s .now) (l .c) (stateOf (l .b) (l .memory)) _ _ (sym (z .advance .ensures .progress) ∙ c .before .p .given .1) in
+    way-ends (a .s .now) (l .c) _ (w .0) (w .1)
 
 loop-again : tie.Need-loop-again Inv-loop μ-loop
 loop-again c =
-    let a = c .before .before .before .before .before .before .before .before .before .before .before .before .args in
-    let l = c .before .before .before .before .before .before .before .before .loop in
+    let z = c .before .before .before .before .before .before in
+    let a = z .before .before .before .before .before .before .args in
+    let l = z .before .before .loop in
     let st = stateOf (l .b) (l .memory) in
-    let r = c .before .before .before .before .before .before .advance .ensures in
+    let r = z .advance .ensures in
     let w = was-played (a .s .now) (l .c) st _ _ (sym (r .progress) ∙ c .before .p .given .1) in
-    let t = turn-next (a .s .now) (a .memory .now) st (l .c .place) (l .inv .1) (l .inv .2) (w .0) _ (w .1 .stood) in
-    let q = (λ i. stateOf (r .board i) (r .memory i)) ∙ w .1 .state in
-    (c .before .before .before .before .before .before .advance .kept .1 .1 .1 .0 ∙ l .inv .0, t .0, subst (λ (x : State). Turn (a .s .now) (a .memory .now) x (c .before .p .given .0 .1 .0 .place) (t .0)) (sym q) (t .1))
+    let after = c .before .p .given .0 .1 .0 in
+    let on = way-on Outcome State Leaves (a .s .now) (start (a .memory .now)) st _ (l .c) after (w .0) (l .inv .1) (w .1) (played st (w .0)) in
+    let q = (λ i. stateOf (r .board i) (r .memory i)) ∙ w .2 in
+    (z .advance .kept .1 .1 .1 .0 ∙ l .inv .0, subst (λ (x : State). Way Leaves (a .s .now) (start (a .memory .now)) x after) (sym q) on)
 
 enum-known-p-2 : tie.Need-enum-known-p-2 Inv-loop μ-loop
 enum-known-p-2 c = search needs
 
 same-length : tie.Need-same-length Inv-loop μ-loop
 same-length c =
-    c .before .before .before .before .before .before .advance .kept .1 .1 .1 .0 ∙ c .before .before .before .before .before .before .before .before .loop .inv .0
+    let z = c .before .before .before .before .before .before in
+    z .advance .kept .1 .1 .1 .0 ∙ z .before .before .loop .inv .0
 
 returns : tie.Need-returns Inv-loop μ-loop
 returns c =
-    let a = c .before .before .before .before .before .before .before .before .before .before .before .before .args in
-    let l = c .before .before .before .before .before .before .before .before .loop in
+    let z = c .before .before .before .before .before .before in
+    let a = z .before .before .before .before .before .before .args in
+    let l = z .before .before .loop in
     let st = stateOf (l .b) (l .memory) in
-    let r = c .before .before .before .before .before .before .advance .ensures in
+    let r = z .advance .ensures in
     let w = was-ended (a .s .now) (l .c) st _ (sym (r .progress) ∙ c .before .p2 .given .1) in
-    let t = turn-end (a .s .now) (a .memory .now) st (l .c .place) (l .inv .1) (l .inv .2) _ (w .0) in
-    let q = w .1 ∙ t .0 in
+    let end = c .before .p2 .given .0 .0 in
+    let o = way-over Outcome State Leaves (a .s .now) (start (a .memory .now)) st (l .c) end (record { state = st; end = end }) (l .inv .1) (w .0) (ended st end) in
+    let q = w .1 ∙ o .state in
     record {
-      end = t .1;
+      end = o .end;
       board = r .board ∙ ap (λ (x : State). x .board) q;
       memory = r .memory ∙ ap (λ (x : State). x .memory) q;
     }

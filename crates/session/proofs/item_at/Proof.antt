@@ -1,23 +1,46 @@
+use Prim.Native.Nat.{ℕ}
 use mathlib.Core.Path.{sym, ap, _∙_}
-use Rattle.files.specs.File.{itemAt}
-use Rattle.files.proofs.Given.{item-later}
+use mathlib.Core.Bool.{Bool, not, _&&_}
 use borrow.Author.Needs.{needs}
+use lib.Dec.{eqb}
+use denote.Ref.{now}
+use Rattle.files.specs.File.{recordAt}
+use Rattle.session.proofs.Opening.{not-opened, opened}
 use Rattle.session.proofs.item_at.Statement.{statement}
 use Rattle.session.proofs.item_at.Tie as tie
 
-first-requires : tie.Need-first-requires
-first-requires c κs = search needs
+opened-requires : tie.Need-opened-requires
+opened-requires c κs = search needs
+
+refused-requires : tie.Need-refused-requires
+refused-requires c κs = search needs
 
 returns : tie.Need-returns
 returns c =
-    record { told = c .first .ensures ∙ ap (itemAt _) (sym (c .before .if1 .taken)) }
+    let a = c .before .before .before .before .args in
+    let asked = ap (λ (o : Bool). eqb (a .at) 0 && not o) (c .before .before .opened .ensures) in
+    record { told = c .refused .ensures ∙ sym (not-opened (now (a .s)) (a .at) (sym asked ∙ c .before .if1 .taken)) }
+
+behind-requires : tie.Need-behind-requires
+behind-requires c κs = search needs
 
 record-at-requires : tie.Need-record-at-requires
 record-at-requires c κs = search needs
 
 returns-2 : tie.Need-returns-2
 returns-2 c =
-    record { told = c .record-at .ensures ∙ sym (item-later _ _ (c .before .if1 .left)) }
+    let a = c .before .before .before .before .before .args in
+    let asked = ap (λ (o : Bool). eqb (a .at) 0 && not o) (c .before .before .before .opened .ensures) in
+    let at = ap (recordAt (now (a .s))) (c .before .behind .ensures) in
+    record { told = c .record-at .ensures ∙ at ∙ sym (opened (now (a .s)) (a .at) (sym asked ∙ c .before .before .if1 .left)) }
 
 pub item-at-spec : {M : Type 1} → statement M
-item-at-spec = tie.close (tie.spec first-requires returns record-at-requires returns-2)
+item-at-spec =
+    tie.close
+    (tie.spec
+    opened-requires
+    refused-requires
+    returns
+    behind-requires
+    record-at-requires
+    returns-2)

@@ -8,7 +8,7 @@ use Rattle.moves.specs.Ready.{Ready}
 use Rattle.moves.proofs.Clocking.{clocked-does}
 use Rattle.board.proofs.Standing.{stands-ready, stands-sober}
 use Rattle.listing.specs.Shortcuts.{boardWith}
-use Rattle.listing.proofs.AtOnce.{load-ahead, tick-ahead, quick-load, quick-tick, stored-stepped, ticked-stepped, takes-with, ticks-with}
+use Rattle.listing.proofs.AtOnce.{load-common, tick-common, quick-load, quick-tick, stored-stepped, ticked-stepped, takes-with, ticks-with}
 use Rattle.listing.proofs.shortcuts.at_once.Statement.{statement}
 use Rattle.listing.proofs.shortcuts.at_once.Tie as tie
 
@@ -24,7 +24,7 @@ returns c =
     let w = quick-load (a .b) (a .d) (a .kind) (c .before .before .before .before .before .before .before .before .before .before .before .pre .1) (c .before .before .before .before .before .before .before .if1 .taken) in
     let s : State = stateOf (boardWith (a .b) (a .levels .now)) (a .memory .now) in
     let st = c .before .before .before .before .before .before .before .before .before .before .before .pre .2 (w .0) in
-    rw (load-ahead (a .kind) (a .value) (c .before .before .before .before .before .before .before .if1 .taken))
+    rw (load-common (a .kind) (a .value) (c .before .before .before .before .before .before .before .if1 .taken))
     (stored-stepped s (a .d) (a .value) st (depth-told (a .b) _ (c .before .before .before .before .before .before .before .before .before .before .before .pre .0) (st .sound .fitted)) (takes-with (a .b) (a .d) (a .levels .now) ∙ w .1)
     (a .b .core) _ _ refl (c .before .before .before .before .before .load .ensures))
 
@@ -48,7 +48,7 @@ returns-2 c =
     let ready = subst (λ (k : ℕ). Ready k (a .b .ring) (a .memory .now)) (sym e) (stands-ready s st) in
     let does = clocked-does (a .b .core) (a .b .ring) (a .d) (a .levels .now) (a .memory .now) ready (record { mask = sober .mask; cursor = sober .cursor })
     _ _ _ _ (c .before .before .before .before .before .before .before .before .before .before .serve .ensures) (c .before .before .before .before .before .deal .ensures) in
-    rw (tick-ahead (a .kind) (a .value) (w .1))
+    rw (tick-common (a .kind) (a .value) (w .1))
     (ticked-stepped s (a .d) st e (ticks-with (a .b .core) (a .levels .now) ∙ w .2) _ _ refl does)
 
 pub at-once-spec : {M : Type 1} → statement M

@@ -1,4 +1,4 @@
--- At each turn there is room for what is left, and whoever writes that has written the whole (`Turn`); the board is one of a run (`Kept`).
+-- At each turn the events from the start of the file on are passed (specs/Desk.antt).
 use Prim.Native.Nat.{ℕ, _-_}
 use mathlib.Core.Path.{_≡_, refl, sym, ap, subst, _∙_}
 use mathlib.Core.Bool.{false≢true}
@@ -6,39 +6,36 @@ use mathlib.Core.List.{List}
 use native.Mathlib.Omega.{arith}
 use borrow.Author.Needs.{needs}
 use lib.ListN.{length}
-use Rattle.rules.specs.declared.Core.{Core}
-use Rattle.rules.specs.declared.Ring.{Ring}
 use Rattle.rules.specs.declared.Board.{Board}
-use Rattle.rules.specs.Record.{State, unpowered, stateOf}
-use Rattle.files.specs.File.{Session, session}
-use Rattle.files.proofs.Given.{item-exactly, item-grows}
+use Rattle.rules.specs.Record.{State, unpowered, stateOf, start}
+use Rattle.rules.specs.Session.{after}
+use Rattle.files.specs.File.{session}
+use Rattle.files.proofs.Given.{item-exactly}
 use Rattle.files.proofs.Sessions.{stands-within}
-use Rattle.moves.specs.Promises.{lent}
-use Rattle.board.specs.Promises.{Stepped}
-use Rattle.listing.specs.Listing.{listing, left}
-use Rattle.listing.specs.Shortcuts.{aheadEvent, boardWith, replyOf, Kept}
-use Rattle.listing.proofs.Puts.{then, put-length}
-use Rattle.listing.proofs.Writing.{Turn, turn-start, tail-room, number-small, turn-tail, turn-stepped}
+use Rattle.text.specs.Text.{heading}
+use Rattle.run.proofs.Ways.{end-stood, way-ends}
+use Rattle.lines.specs.Pieces.{Piece}
+use Rattle.lines.proofs.Joined.{then, piece-length, printed-piece}
+use Rattle.listing.specs.Listing.{body, listing}
+use Rattle.listing.specs.Desk.{desk, Passed}
 use Rattle.listing.proofs.Body.{in-reach}
-use Rattle.listing.proofs.AtOnce.{quick-some}
+use Rattle.listing.proofs.Passing.{passed-start, passed-then, passed-on, passed-over, tail-room, line-room, number-small}
 use Rattle.listing.proofs.whole.put_listing.Statement.{statement}
 use Rattle.listing.proofs.whole.put_listing.Tie as tie
 
--- the board of its parts
-abbrev boardNow : Board → Core → List ℕ → Ring → Board
-boardNow rest core levels ring = record { core = lent core levels; size = rest .size; request = rest .request; ring = ring }
-
 abbrev Inv-loop : tie.InvT-loop
-Inv-loop s memory₀ out₀ at₀ rest₀ core₀ levels₀ ring₀ place₀ number₀ memory out at rest core levels ring place number =
+Inv-loop s memory₀ out₀ at₀ b₀ c₀ number₀ memory out at b c number =
     (length memory ≡ length memory₀) × (length out ≡ length out₀)
-    × Kept (stateOf (boardNow rest core levels ring) memory)
-    × (x : Session) × Turn s memory₀ out₀ at₀ out at (stateOf (boardNow rest core levels ring) memory) place number x
+    × Passed s (record { place = 0 }) (desk b₀ memory₀ out₀ at₀ 1) c (desk b memory out at number)
 
 abbrev μ-loop : tie.MeasureT-loop
-μ-loop s memory₀ out₀ at₀ rest₀ core₀ levels₀ ring₀ place₀ number₀ memory out at rest core levels ring place number = length s - place
+μ-loop s memory₀ out₀ at₀ b₀ c₀ number₀ memory out at b c number = length s - c .place
 
-put-heading-requires : tie.Need-put-heading-requires Inv-loop μ-loop
-put-heading-requires c κs = omega (arith, c .before .before .before .before .pre .1)
+slice-aggregate-put-text : tie.Need-slice-aggregate-put-text Inv-loop μ-loop
+slice-aggregate-put-text c = search needs
+
+put-text-requires : tie.Need-put-text-requires Inv-loop μ-loop
+put-text-requires c κs = tt
 
 unpowered-requires : tie.Need-unpowered-requires Inv-loop μ-loop
 unpowered-requires c κs = tt
@@ -46,135 +43,103 @@ unpowered-requires c κs = tt
 loop-holds : tie.Need-loop-holds Inv-loop μ-loop
 unfolding unpowered
 loop-holds c =
-    let a = c .before .before .before .before .before .before .before .before .before .before .before .args in
-    let h = c .before .before .before .before .before .before .put-heading in
-    let q = c .before .before .before .unpowered .ensures .board in
-    let t = turn-start (a .s .now) (a .memory .now) (h .last .0) (h .result) (omega (arith, c .before .before .before .before .before .before .before .before .before .before .before .pre .1, put-length (h .ensures), h .ensures .place)) in (
+    let z = c .before .before .before .before .before .before .before .before .before in
+    let h = printed-piece (c .before .before .before .put-text .ensures) (omega (arith, z .pre .1)) in
+    let dark = ap (λ (b : Board). b .core .powered) (c .unpowered .ensures .board) in (
       refl,
       refl,
-      λ k. absurd (false≢true (sym (ap (λ (b : Board). b .core .powered) q) ∙ k)),
-      session (a .s .now),
-      subst (λ (b : Board). Turn (a .s .now) (a .memory .now) (h .last .0) (h .result) (h .last .0) (h .result) (stateOf b (a .memory .now)) 0 1 (session (a .s .now))) (sym q) t,
+      passed-start (z .args .s .now) _ _
+          (record {
+            within = omega arith;
+            numbered = omega arith;
+            room = omega (arith, z .pre .1, piece-length h, h .place);
+            sound = λ k. absurd (false≢true (sym dark ∙ k));
+          }),
     )
 
-ahead-at-requires : tie.Need-ahead-at-requires Inv-loop μ-loop
-ahead-at-requires c κs = c .loop .inv .4 .rest .within
+hurry-requires : tie.Need-hurry-requires Inv-loop μ-loop
+hurry-requires c κs =
+    let z = c .before .before in
+    (z .before .before .before .before .before .before .before .before .before .before .pre .0, z .loop .inv .2 .fair)
 
-whole-requires : tie.Need-whole-requires Inv-loop μ-loop
-whole-requires c κs = tt
-
-depth-requires : tie.Need-depth-requires Inv-loop μ-loop
-depth-requires c κs = tt
-
-quick-requires : tie.Need-quick-requires Inv-loop μ-loop
-quick-requires c κs = tt
-
-at-once-requires : tie.Need-at-once-requires Inv-loop μ-loop
-at-once-requires c κs =
-    let l = c .before .before .before .before .before .before .before .loop in
-    (c .before .before .before .before .depth .ensures, sym (c .before .before .before .quick .ensures) ∙ c .before .before .if1 .taken, rw (c .before .before .before .before .before .whole .ensures) (l .inv .2))
-
-put-done-requires : tie.Need-put-done-requires Inv-loop μ-loop
-put-done-requires c κs = omega (arith, tail-room _ _ _ _ _ _ _ _ _ _ (c .before .before .before .before .before .before .before .before .before .before .before .before .before .before .before .loop .inv .4))
-
-add-number : tie.Need-add-number Inv-loop μ-loop
-add-number c = record { fits = omega (arith, number-small _ _ _ _ _ _ _ _ _ _ (c .before .before .before .before .before .before .before .before .before .before .before .before .before .before .before .before .before .before .loop .inv .4) (c .before .before .before .before .before .before .before .before .before .before .before .before .before .before .before .before .before .before .before .before .before .before .before .before .before .before .before .before .before .before .pre .0)) }
-
-loop-less : tie.Need-loop-less Inv-loop μ-loop
-loop-less c =
-    let ahead = c .before .before .before .before .before .before .before .before .before .before .before .before .before .before .before .before .before .ahead-at in
-    let stood = ahead .ensures (quick-some _ _ _ (sym (c .before .before .before .before .before .before .before .before .before .before .before .before .before .before .quick .ensures) ∙ c .before .before .before .before .before .before .before .before .before .before .before .before .before .if1 .taken)) in
-    omega (arith, item-grows (c .before .before .before .before .before .before .before .before .before .before .before .before .before .before .before .before .before .before .before .before .before .before .before .before .before .before .before .before .before .before .args .s .now) (c .before .before .before .before .before .before .before .before .before .before .before .before .before .before .before .before .before .before .loop .place) (aheadEvent (ahead .result .kind) (ahead .result .value)) _ stood)
-
-loop-again : tie.Need-loop-again Inv-loop μ-loop
-loop-again c =
-    let a = c .before .before .before .before .before .before .before .before .before .before .before .before .before .before .before .before .before .before .before .before .before .before .before .before .before .before .before .before .before .before .args in
-    let h = c .before .before .before .before .before .before .before .before .before .before .before .before .before .before .before .before .before .before .before .before .before .before .before .before .before .put-heading in
-    let l = c .before .before .before .before .before .before .before .before .before .before .before .before .before .before .before .before .before .before .loop in
-    let ahead = c .before .before .before .before .before .before .before .before .before .before .before .before .before .before .before .before .before .ahead-at in
-    let change = c .before .before .before .before .before .before .before .before .before .before .at-once in
-    let put = c .before .before .put-done in
-    let event = aheadEvent (ahead .result .kind) (ahead .result .value) in
-    let stood = ahead .ensures (quick-some _ _ _ (sym (c .before .before .before .before .before .before .before .before .before .before .before .before .before .before .quick .ensures) ∙ c .before .before .before .before .before .before .before .before .before .before .before .before .before .if1 .taken)) in
-    let stepped = subst (λ (b : Board). Stepped (boardWith b (l .levels)) (l .memory) event (replyOf b (change .result) (change .last .1 .1 .1 .1 .0)) (change .last .1 .1 .1 .1 .1 .0)) (c .before .before .before .before .before .before .before .before .before .before .before .before .before .before .before .before .whole .ensures) (change .ensures) in
-    let t = turn-stepped (a .s .now) (a .memory .now) (h .last .0) (h .result) (l .out) (l .at) (boardNow (l .rest) (l .core) (l .levels) (l .ring)) (l .memory) (l .place) (l .number) (l .inv .3) (l .inv .4) (l .inv .2)
-    event _ _ _ _ _ stood stepped (put .ensures) in
-    (change .kept .1 .1 .1 .1 .1 .0 ∙ l .inv .0, put .kept .0 ∙ l .inv .1, t .0, t .1, t .2)
-
-read-at-requires : tie.Need-read-at-requires Inv-loop μ-loop
-read-at-requires c κs = tt
-
-enum-known-item : tie.Need-enum-known-item Inv-loop μ-loop
-enum-known-item c = search needs
-
-with-levels-requires : tie.Need-with-levels-requires Inv-loop μ-loop
-with-levels-requires c κs = tt
-
-whole-requires-2 : tie.Need-whole-requires-2 Inv-loop μ-loop
-whole-requires-2 c κs = tt
+enum-known-n : tie.Need-enum-known-n Inv-loop μ-loop
+enum-known-n c = search needs
 
 step-requires : tie.Need-step-requires Inv-loop μ-loop
 step-requires c κs = tt
 
 put-line-requires : tie.Need-put-line-requires Inv-loop μ-loop
-put-line-requires c κs = omega (arith, tail-room _ _ _ _ _ _ _ _ _ _ (c .before .before .before .before .before .before .before .before .before .before .before .before .before .before .before .before .before .before .before .before .before .loop .inv .4))
+put-line-requires c κs = tt
 
-add-number-2 : tie.Need-add-number-2 Inv-loop μ-loop
-add-number-2 c = record { fits = omega (arith, number-small _ _ _ _ _ _ _ _ _ _ (c .before .before .before .before .before .before .before .before .before .before .before .before .before .before .before .before .before .before .before .before .before .before .before .before .loop .inv .4) (c .before .before .before .before .before .before .before .before .before .before .before .before .before .before .before .before .before .before .before .before .before .before .before .before .before .before .before .before .before .before .before .before .before .before .before .before .pre .0)) }
+add-number : tie.Need-add-number Inv-loop μ-loop
+add-number c =
+    let q = c .before .before .before .before .before .before .before .before .before .before .before .before .before .before .before .before .before .before .before in
+    record { fits = omega (arith, number-small _ _ _ _ _ _ _ (q .hurry .ensures .passed .fair) (q .before .before .before .before .before .before .before .before .before .before .before .before .before .pre .0)) }
 
-loop-less-2 : tie.Need-loop-less-2 Inv-loop μ-loop
-loop-less-2 c =
-    let i = c .before .before .before .before .before .before .before .before .before .before .before .before .before .before .before .before .item .given in
-    let stood = sym (c .before .before .before .before .before .before .before .before .before .before .before .before .before .before .before .before .before .before .read-at .ensures .told) ∙ i .1 in
-    omega (arith, item-grows (c .before .before .before .before .before .before .before .before .before .before .before .before .before .before .before .before .before .before .before .before .before .before .before .before .before .before .before .before .before .before .before .before .before .before .before .before .args .s .now) (c .before .before .before .before .before .before .before .before .before .before .before .before .before .before .before .before .before .before .before .before .before .before .before .before .loop .place) (i .0 .0) _ stood)
+loop-less : tie.Need-loop-less Inv-loop μ-loop
+loop-less c =
+    let q = c .before .before .before .before .before .before .before .before .before .before .before .before .before .before .before .before .before .before .before in
+    let n = c .before .before .before .before .before .before .before .before .before .before .before .before .n .given in
+    let h = q .hurry .ensures in
+    omega (arith, h .passed .nearer, way-ends (q .before .before .before .before .before .before .before .before .before .before .before .before .before .args .s .now) (h .cursor) (n .0 .1 .0) (n .0 .0) (sym (h .stands) ∙ n .1))
 
-loop-again-2 : tie.Need-loop-again-2 Inv-loop μ-loop
-loop-again-2 c =
-    let a = c .before .before .before .before .before .before .before .before .before .before .before .before .before .before .before .before .before .before .before .before .before .before .before .before .before .before .before .before .before .before .before .before .before .before .before .before .args in
-    let h = c .before .before .before .before .before .before .before .before .before .before .before .before .before .before .before .before .before .before .before .before .before .before .before .before .before .before .before .before .before .before .before .put-heading in
-    let l = c .before .before .before .before .before .before .before .before .before .before .before .before .before .before .before .before .before .before .before .before .before .before .before .before .loop in
-    let i = c .before .before .before .before .before .before .before .before .before .before .before .before .before .before .before .before .item .given in
-    let done = c .before .before .before .before .before .before .before .before .before .before .before .step in
-    let put = c .before .before .put-line in
-    let now = boardNow (l .rest) (l .core) (l .levels) (l .ring) in
-    let stood = sym (c .before .before .before .before .before .before .before .before .before .before .before .before .before .before .before .before .before .before .read-at .ensures .told) ∙ i .1 in
-    let same : c .before .before .before .before .before .before .before .before .before .before .before .before .before .whole2 .result ≡ now = c .before .before .before .before .before .before .before .before .before .before .before .before .before .whole2 .ensures ∙ (λ j. record { core = c .before .before .before .before .before .before .before .before .before .before .before .before .before .before .with-levels .ensures j; size = l .rest .size; request = l .rest .request; ring = l .ring }) in
-    let stepped = subst (λ (b : Board). Stepped b (l .memory) (i .0 .0) (done .result) (done .last .1 .0)) same (done .ensures) in
-    let t = turn-stepped (a .s .now) (a .memory .now) (h .last .0) (h .result) (l .out) (l .at) now (l .memory) (l .place) (l .number) (l .inv .3) (l .inv .4) (l .inv .2)
-    (i .0 .0) _ _ _ _ _ stood stepped (put .ensures) in
-    (done .kept .1 .0 ∙ l .inv .0, put .kept .0 ∙ l .inv .1, t .0, t .1, t .2)
-
-enum-known-item-2 : tie.Need-enum-known-item-2 Inv-loop μ-loop
-enum-known-item-2 c = search needs
-
-put-tail-requires : tie.Need-put-tail-requires Inv-loop μ-loop
-put-tail-requires c κs =
-    let a = c .before .before .before .before .before .before .before .before .before .before .before .before .before .before .before .before .before .before .before .before .before .before .args in
-    let l = c .before .before .before .before .before .before .before .before .before .before .loop in
-    let i = c .before .before .item2 .given in
-    let stood = sym (c .before .before .before .before .read-at .ensures .told) ∙ i .1 in (
-      tail-room _ _ _ _ _ _ _ _ _ _ (l .inv .4),
-      in-reach (a .s .now) (i .0 .0) (c .before .before .before .before .before .before .before .before .before .before .before .before .before .before .before .before .before .before .before .before .before .before .pre .0) (stands-within (a .s .now) (l .place) _ (item-exactly (a .s .now) (l .place) _ .0 stood)),
+loop-again : tie.Need-loop-again Inv-loop μ-loop
+loop-again c =
+    let p = c .before .before .before .before .before .before .before .before .before in
+    let q = p .before .before .before .before .before .before .before .before .before .before in
+    let l = q .before .before .before .loop in
+    let n = p .before .before .before .n .given in
+    let h = q .hurry .ensures in
+    let f = h .passed .fair in
+    let stepped = p .step .ensures in
+    let put = c .before .before .before .put-line in
+    let line = printed-piece (put .ensures) (line-room _ _ (q .hurry .result .board) _ _ _ _ f) in (
+      p .step .kept .1 .0 ∙ q .hurry .kept .1 .1 .1 .1 .1 .0 ∙ l .inv .0,
+      put .kept .0 ∙ q .hurry .kept .1 .1 .1 .1 .1 .1 .0 ∙ l .inv .1,
+      passed-then _ _ _ _ _ _ _ (l .inv .2)
+          (passed-then _ _ _ _ _ _ _ (h .passed) (passed-on _ (h .cursor) (q .hurry .result .board) _ _ _ _ f (n .0 .1 .0) (n .0 .0) (sym (h .stands) ∙ n .1) _ _ _ _ stepped line)),
     )
 
+enum-known-n-2 : tie.Need-enum-known-n-2 Inv-loop μ-loop
+enum-known-n-2 c = search needs
+
+put-end-requires : tie.Need-put-end-requires Inv-loop μ-loop
+put-end-requires c κs =
+    let q = c .before .before .before .before .before .before .before .before .before .before in
+    let a = q .before .before .before .before .before .before .before .before .before .before .before .before .before in
+    let h = q .hurry .ensures in
+    let n = c .before .before .before .n2 .given in
+    let stood = end-stood (a .args .s .now) (h .cursor) (n .0 .0) (sym (h .stands) ∙ n .1) in
+    (tail-room _ _ (q .hurry .result .board) _ _ _ _ (h .passed .fair), in-reach (a .args .s .now) (n .0 .0) (a .pre .0) (stands-within (a .args .s .now) (h .cursor .place) _ (item-exactly (a .args .s .now) (h .cursor .place) _ .0 stood)))
+
 same-length : tie.Need-same-length Inv-loop μ-loop
-same-length c = c .before .before .before .before .before .before .before .before .before .before .before .before .before .loop .inv .0
+same-length c =
+    let q = c .before .before .before .before .before .before .before .before .before .before .before .before .before in
+    q .hurry .kept .1 .1 .1 .1 .1 .0 ∙ q .before .before .before .loop .inv .0
 
 same-length-2 : tie.Need-same-length-2 Inv-loop μ-loop
-same-length-2 c = c .before .before .put-tail .kept .0 ∙ c .before .before .before .before .before .before .before .before .before .before .before .before .before .loop .inv .1 ∙ c .before .before .before .before .before .before .before .before .before .before .before .before .before .before .before .before .before .before .before .before .put-heading .kept .0
+same-length-2 c =
+    let q = c .before .before .before .before .before .before .before .before .before .before .before .before .before in
+    let l = q .before .before .before in
+    c .before .before .put-end .kept .0 ∙ q .hurry .kept .1 .1 .1 .1 .1 .1 .0 ∙ l .loop .inv .1 ∙ l .before .before .before .before .put-text .kept .0
 
 returns : tie.Need-returns Inv-loop μ-loop
-unfolding listing left
+unfolding listing
 returns c =
-    let a = c .before .before .before .before .before .before .before .before .before .before .before .before .before .before .before .before .before .before .before .before .before .before .before .before .before .args in
-    let l = c .before .before .before .before .before .before .before .before .before .before .before .before .before .loop in
-    let i = c .before .before .before .before .before .item2 .given in
-    let stood = sym (c .before .before .before .before .before .before .before .read-at .ensures .told) ∙ i .1 in
-    let h = c .before .before .before .before .before .before .before .before .before .before .before .before .before .before .before .before .before .before .before .before .put-heading in
-    let put = c .before .before .put-tail in
-    let t = turn-tail (a .s .now) (a .memory .now) (h .last .0) (h .result) (l .out) (l .at) _ (l .place) (l .number) (l .inv .3) (l .inv .4)
-    _ _ (put .last .0) (put .result) stood refl (put .ensures) in
-    (then (h .ensures) (t .0), ap (λ (x : State). x .memory) (t .1))
+    let q = c .before .before .before .before .before .before .before .before .before .before .before .before .before in
+    let l = q .before .before .before in
+    let t = l .before .before .before .before in
+    let a = t .before .before .before .before .before .before in
+    let h = q .hurry .ensures in
+    let n = c .before .before .before .before .before .before .n2 .given in
+    let put = c .before .before .put-end in
+    let passed = passed-then _ _ _ _ _ _ _ (l .loop .inv .2) (h .passed) in
+    let w = passed-over (a .args .s .now) _ (h .cursor) _ (n .0 .0) (put .last .0) (put .result) passed (sym (h .stands) ∙ n .1) (put .ensures) in
+    let start = ap (λ (b : Board). stateOf b (a .args .memory .now)) (l .before .unpowered .ensures .board) in
+    let head = printed-piece (t .put-text .ensures) (omega (arith, a .pre .1)) in (
+      then head (subst (λ (st : State). Piece (t .put-text .last .0) (t .put-text .result) (body 1 st (session (a .args .s .now))) (put .last .0) (put .result)) start (w .text)),
+      w .memory ∙ ap (λ (st : State). (after st ((session (a .args .s .now)) .events)) .memory) start,
+    )
 
 pub put-listing-spec : {M : Type 1} → statement M
 put-listing-spec =
@@ -182,29 +147,19 @@ put-listing-spec =
     (tie.spec
     Inv-loop
     μ-loop
-    put-heading-requires
+    slice-aggregate-put-text
+    put-text-requires
     unpowered-requires
     loop-holds
-    ahead-at-requires
-    whole-requires
-    depth-requires
-    quick-requires
-    at-once-requires
-    put-done-requires
+    hurry-requires
+    enum-known-n
+    step-requires
+    put-line-requires
     add-number
     loop-less
     loop-again
-    read-at-requires
-    enum-known-item
-    with-levels-requires
-    whole-requires-2
-    step-requires
-    put-line-requires
-    add-number-2
-    loop-less-2
-    loop-again-2
-    enum-known-item-2
-    put-tail-requires
+    enum-known-n-2
+    put-end-requires
     same-length
     same-length-2
     returns)

@@ -61,8 +61,26 @@ byte-at-requires c κs = search needs
 length-of-requires : tie.Need-length-of-requires
 length-of-requires c κs = search needs
 
-refused-requires-4 : tie.Need-refused-requires-4
-refused-requires-4 c κs = search needs
+add-event-at : tie.Need-add-event-at
+add-event-at c = search needs
+
+event-at-requires : tie.Need-event-at-requires
+event-at-requires c κs =
+    let w = c .before .before .before .before .before .word-at .ensures .0 in
+    let one = c .before .before .before .before .before .before .before .if1 .left in
+    let two = c .before .before .before .before .before .before .if2 .left in
+    let kind = c .before .length-of .ensures .0 ∙ ap lengthOf (c .before .before .byte-at .ensures .0) in
+    let same = sym w ∙ c .if5 .taken ∙ kind in
+    (omega (arith, one, two, c .before .before .before .before .if3 .left, c .before .before .before .if4 .left), omega (arith, one, two, w, c .before .before .before .before .if3 .left, same))
+
+add-t16 : tie.Need-add-t16
+add-t16 c = search needs
+
+cast-t17 : tie.Need-cast-t17
+cast-t17 c = search needs
+
+add-t18 : tie.Need-add-t18
+add-t18 c = search needs
 
 returns-5 : tie.Need-returns-5
 returns-5 c =
@@ -70,28 +88,13 @@ returns-5 c =
     let one = c .before .before .before .before .before .before .before .before .if1 .left in
     let two = c .before .before .before .before .before .before .before .if2 .left in
     let kind = c .before .before .length-of .ensures .0 ∙ ap lengthOf (c .before .before .before .byte-at .ensures .0) in
-    c .refused4 .ensures ∙ sym (record-given _ _ _ (unknown (omega (arith, one, two, w, c .before .before .before .before .before .if3 .left)) (λ z. c .before .before .before .before .if4 .left (w ∙ z)) (zero-unknown _ (sym kind ∙ c .before .if5 .taken))))
+    let same = sym kind ∙ sym (c .before .if5 .taken) ∙ w in
+    let known = length-known _ (λ z. c .before .before .before .before .if4 .left (w ∙ sym same ∙ z)) in
+    (λ i. Got (c .event-at .ensures i) (c .before .before .before .before .before .before .before .before .before .before .args .at + 2 + w i))
+    ∙ sym (record-given _ _ _ (event (omega (arith, one, two, w, c .before .before .before .before .before .if3 .left)) (subst (Known _) same known)))
 
-add-event-at : tie.Need-add-event-at
-add-event-at c = search needs
-
-event-at-requires : tie.Need-event-at-requires
-event-at-requires c κs =
-    let w = c .before .before .before .before .before .before .word-at .ensures .0 in
-    let one = c .before .before .before .before .before .before .before .before .if1 .left in
-    let two = c .before .before .before .before .before .before .before .if2 .left in
-    let kind = c .before .before .length-of .ensures .0 ∙ ap lengthOf (c .before .before .before .byte-at .ensures .0) in
-    let same = sym w ∙ c .if6 .taken ∙ kind in
-    (omega (arith, one, two, c .before .before .before .before .before .if3 .left, c .before .before .before .before .if4 .left), omega (arith, one, two, w, c .before .before .before .before .before .if3 .left, same))
-
-add-t17 : tie.Need-add-t17
-add-t17 c = search needs
-
-cast-t18 : tie.Need-cast-t18
-cast-t18 c = search needs
-
-add-t19 : tie.Need-add-t19
-add-t19 c = search needs
+refused-requires-4 : tie.Need-refused-requires-4
+refused-requires-4 c κs = search needs
 
 returns-6 : tie.Need-returns-6
 returns-6 c =
@@ -99,10 +102,7 @@ returns-6 c =
     let one = c .before .before .before .before .before .before .before .before .before .if1 .left in
     let two = c .before .before .before .before .before .before .before .before .if2 .left in
     let kind = c .before .before .before .length-of .ensures .0 ∙ ap lengthOf (c .before .before .before .before .byte-at .ensures .0) in
-    let known = length-known _ (λ z. c .before .before .if5 .left (kind ∙ z)) in
-    let same = sym kind ∙ sym (c .before .if6 .taken) ∙ w in
-    (λ i. Got (c .event-at .ensures i) (c .before .before .before .before .before .before .before .before .before .before .before .args .at + 2 + w i))
-    ∙ sym (record-given _ _ _ (event (omega (arith, one, two, w, c .before .before .before .before .before .before .if3 .left)) (subst (Known _) same known)))
+    c .refused4 .ensures ∙ sym (record-given _ _ _ (unknown (omega (arith, one, two, w, c .before .before .before .before .before .before .if3 .left)) (λ z. c .before .before .before .before .before .if4 .left (w ∙ z)) (zero-unknown _ (sym kind ∙ c .before .if6 .taken))))
 
 refused-requires-5 : tie.Need-refused-requires-5
 refused-requires-5 c κs = search needs
@@ -113,9 +113,9 @@ returns-7 c =
     let one = c .before .before .before .before .before .before .before .before .before .if1 .left in
     let two = c .before .before .before .before .before .before .before .before .if2 .left in
     let kind = c .before .before .before .length-of .ensures .0 ∙ ap lengthOf (c .before .before .before .before .byte-at .ensures .0) in
-    let known = length-known _ (λ z. c .before .before .if5 .left (kind ∙ z)) in
+    let known = length-known _ (λ z. c .before .if6 .left (kind ∙ z)) in
     c .refused5 .ensures
-    ∙ sym (record-given _ _ _ (lengthWrong _ (omega (arith, one, two, w, c .before .before .before .before .before .before .if3 .left)) (λ z. c .before .before .before .before .before .if4 .left (w ∙ z)) known (λ h. c .before .if6 .left (w ∙ h ∙ sym kind))))
+    ∙ sym (record-given _ _ _ (lengthWrong _ (omega (arith, one, two, w, c .before .before .before .before .before .before .if3 .left)) (λ z. c .before .before .before .before .before .if4 .left (w ∙ z)) known (λ h. c .before .before .if5 .left (w ∙ h ∙ sym kind))))
 
 pub record-at-spec : {M : Type 1} → statement M
 record-at-spec =
@@ -134,13 +134,13 @@ record-at-spec =
     add-byte-at
     byte-at-requires
     length-of-requires
-    refused-requires-4
-    returns-5
     add-event-at
     event-at-requires
-    add-t17
-    cast-t18
-    add-t19
+    add-t16
+    cast-t17
+    add-t18
+    returns-5
+    refused-requires-4
     returns-6
     refused-requires-5
     returns-7)

@@ -1,0 +1,6 @@
+-- What the functions' proofs cite; each file opens with what it shows.
+pub mod Joined
+pub mod Digits
+pub mod LineParts
+pub mod Printing
+pub mod Unique

@@ -1,0 +1,87 @@
+-- What the loops over a session keep (specs/Desk.antt): from the start they have passed nothing; an event that was played and written is
+-- passed; and at the end of the file all is written.
+use Prim.Native.Nat.{ℕ, _+_, _≤_}
+use mathlib.Core.Path.{_≡_, refl, sym, ap, subst, _∙_}
+use mathlib.Core.List.{List, [], _∷_}
+use native.Mathlib.Omega.{arith}
+use native.Mathlib.Nat.{le-refl}
+use lib.ListN.{length}
+use Rattle.rules.specs.declared.Event.{Event}
+use Rattle.rules.specs.declared.Board.{Board}
+use Rattle.rules.specs.Record.{State, stateOf}
+use Rattle.rules.specs.Step.{step}
+use Rattle.rules.specs.Session.{after}
+use Rattle.files.specs.declared.End.{End}
+use Rattle.files.specs.File.{Session, session}
+use Rattle.files.proofs.Given.{item-grows}
+use Rattle.board.specs.declared.Reply.{Reply}
+use Rattle.board.specs.Promises.{Stepped}
+use Rattle.text.specs.Text.{line}
+use Rattle.text.proofs.Lengths.{line-length}
+use Rattle.run.specs.declared.Cursor.{Cursor}
+use Rattle.run.specs.declared.Ahead.the-variants.{Found, Over}
+use Rattle.run.specs.Run.{found}
+use Rattle.run.specs.Way.{Way, Passes}
+use Rattle.run.proofs.Ways.{event-stood, way-start, way-on, way-over, way-ends}
+use Rattle.lines.specs.Pieces.{Piece}
+use Rattle.lines.proofs.Joined.{then, piece-length}
+use Rattle.listing.specs.Listing.{levelsOf, ending}
+use Rattle.listing.specs.Shortcuts.{InRun}
+use Rattle.listing.specs.Desk.{Desk, desk, Page, Writes, Fair, Passed}
+use Rattle.listing.proofs.Body.{body-event, body-end}
+use Rattle.listing.proofs.AtOnce.{in-run-step}
+
+pub passed-start : (s : List ℕ) (c : Cursor) (k : Desk) → Fair s c k → Passed s c k c k
+passed-start s c k f = record { fair = f; way = λ start w. w; nearer = le-refl _ }
+
+pub passed-then : (s : List ℕ) (c : Cursor) (k : Desk) (c1 : Cursor) (k1 : Desk) (c2 : Cursor) (k2 : Desk)
+    → Passed s c k c1 k1 → Passed s c1 k1 c2 k2 → Passed s c k c2 k2
+passed-then s c k c1 k1 c2 k2 p q =
+    record { fair = q .fair; way = λ start w. q .way start (p .way start w); nearer = omega (arith, p .nearer, q .nearer) }
+
+module _ (s : List ℕ) (c : Cursor) (b : Board) (m out : List ℕ) (at number : ℕ) (f : Fair s c (desk b m out at number)) where
+  pub tail-room : at + 134 ≤ length out
+  tail-room = omega (arith, f .room)
+
+  pub line-room : at + 64 ≤ length out
+  line-room = omega (arith, f .room)
+
+  pub number-small : length s ≤ 65536 → number ≤ 65537
+  number-small h = omega (arith, f .numbered, f .within)
+
+  module _ (after : Cursor) (e : Event) (h : found s c ≡ Found e after) (r : Reply) (m′ out′ : List ℕ) (at′ : ℕ)
+      (p : Stepped b m e r m′) (w : Piece out at (line number (r .answer) (r .board .ring .count)) out′ at′) where
+    left : (step (stateOf b m) e) .state ≡ stateOf (r .board) m′
+    left = sym (λ i. stateOf (p .board i) (p .memory i))
+
+    -- the line, and then the rest
+    written : Passes Writes (desk b m out at number) e (desk (r .board) m′ out′ at′ (number + 1))
+    unfolding after
+    written o x g =
+        let told : Piece out at (line number ((step (stateOf b m) e) .answer) ((step (stateOf b m) e) .state .board .ring .count)) out′ at′ =
+        subst (λ (l : List ℕ). Piece out at l out′ at′) (λ i. line number (p .answer i) (p .board i .ring .count)) w in
+        subst (λ (st : State). Writes o (record { out = out′; at = at′; number = number + 1; state = st }) x → Writes o (desk b m out at number) (record { events = e ∷ x .events; end = x .end })) left
+        (λ v. record { text = rw (body-event number (stateOf b m) e x) (then told (v .text)); memory = v .memory }) g
+
+    pub passed-on : Passed s c (desk b m out at number) after (desk (r .board) m′ out′ at′ (number + 1))
+    passed-on =
+        let grows = item-grows s (c .place) e (after .place) (event-stood s c after e h) in
+        record {
+          fair = record {
+            within = grows .1;
+            numbered = omega (arith, f .numbered, grows .0);
+            room = omega (arith, f .room, grows .0, grows .1, piece-length w, w .place, line-length number (r .answer) (r .board .ring .count));
+            sound = subst InRun left (in-run-step (stateOf b m) e (f .sound));
+          };
+          way = λ start v. way-on Page Desk Writes s start (desk b m out at number) (desk (r .board) m′ out′ at′ (number + 1)) c after e v h written;
+          nearer = omega (arith, grows .0, grows .1);
+        }
+
+-- the whole file, from its start
+pub passed-over : (s : List ℕ) (start : Desk) (c : Cursor) (k : Desk) (z : End) (out′ : List ℕ) (at′ : ℕ)
+    → Passed s (record { place = 0 }) start c k → found s c ≡ Over z → Piece (k .out) (k .at) (ending z (levelsOf (k .state))) out′ at′
+    → Writes (record { out = out′; at = at′; memory = k .state .memory }) start (session s)
+unfolding after
+passed-over s start c k z out′ at′ p h w =
+    way-over Page Desk Writes s start k c z _ (p .way start (way-start Page Desk Writes s start)) h
+    (record { text = rw (body-end (k .number) (k .state) z) w; memory = refl })

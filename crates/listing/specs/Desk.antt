@@ -1,0 +1,57 @@
+-- What the loops over a session hold while they write its listing. For the code.
+--   Writes o k x           o is the page when the session x is played and written on from the desk k
+--   Fair s c k             at the cursor c the desk k has room for the rest, and its board is one of a run
+--   Passed s c k c′ k′     from the cursor c and the desk k, events were played and written as far as c′ and k′
+use Prim.Native.Nat.{ℕ, _+_, _*_, _-_, _≤_}
+use mathlib.Core.Path.{_≡_}
+use mathlib.Core.List.{List}
+use lib.ListN.{length}
+use Rattle.rules.specs.declared.Board.{Board}
+use Rattle.rules.specs.Record.{State, stateOf}
+use Rattle.rules.specs.Session.{after}
+use Rattle.files.specs.File.{Session}
+use Rattle.run.specs.declared.Cursor.{Cursor}
+use Rattle.run.specs.Run.{found}
+use Rattle.run.specs.Way.{Way}
+use Rattle.lines.specs.Pieces.{Piece}
+use Rattle.listing.specs.declared.hurry.Hurried.{Hurried}
+use Rattle.listing.specs.Listing.{body}
+use Rattle.listing.specs.Shortcuts.{InRun}
+
+-- the output so far and the place in it, the number of the next line, the board and its memory
+pub record Desk : Type 0 where
+  pub out : List ℕ
+  pub at : ℕ
+  pub number : ℕ
+  pub state : State
+
+abbrev pub desk : Board → List ℕ → List ℕ → ℕ → ℕ → Desk
+desk b m out at number = record { out = out; at = at; number = number; state = stateOf b m }
+
+-- the output in the end and the place after the text, and the memory
+pub record Page : Type 0 where
+  pub out : List ℕ
+  pub at : ℕ
+  pub memory : List ℕ
+
+pub record Writes (o : Page) (k : Desk) (x : Session) : Type 0 where
+  pub text : Piece (k .out) (k .at) (body (k .number) (k .state) x) (o .out) (o .at)
+  pub memory : o .memory ≡ (after (k .state) (x .events)) .memory
+
+pub record Fair (s : List ℕ) (c : Cursor) (k : Desk) : Type 0 where
+  pub within : c .place ≤ length s
+  pub numbered : k .number ≤ c .place + 1
+  -- a record has three bytes or more, and its line takes no more than twenty-two for each
+  pub room : k .at + 134 + 22 * (length s - c .place) ≤ length (k .out)
+  pub sound : InRun (k .state)
+
+pub record Passed (s : List ℕ) (c : Cursor) (k : Desk) (c′ : Cursor) (k′ : Desk) : Type 0 where
+  pub fair : Fair s c′ k′
+  pub way : (start : Desk) → Way Writes s start k c → Way Writes s start k′ c′
+  pub nearer : length s - c′ .place ≤ length s - c .place
+
+-- what `hurry` leaves: the events as far as a cursor are done, and what stands there is told
+pub record Hurries (s : List ℕ) (c : Cursor) (k : Desk) (r : Hurried) (m′ out′ : List ℕ) : Type 0 where
+  pub cursor : Cursor
+  pub stands : r .ahead ≡ found s cursor
+  pub passed : Passed s c k cursor (desk (r .board) m′ out′ (r .at) (r .number))

@@ -1,0 +1,34 @@
+use mathlib.Core.Path.{sym, _∙_}
+use mathlib.Core.Bool.{false≢true}
+use native.Mathlib.Omega.{arith}
+use borrow.Author.Tests.{eqb-true}
+use borrow.Author.Needs.{needs}
+use lib.Dec.{eqb}
+use Rattle.rules.proofs.Choice.{and-both}
+use Rattle.reader.proofs.common.tick_stands.Statement.{statement}
+use Rattle.reader.proofs.common.tick_stands.Tie as tie
+
+returns : tie.Need-returns
+returns c h = absurd (false≢true h)
+
+word-requires : tie.Need-word-requires
+word-requires c κs = omega (arith, c .if1 .left, (c .before .before .pre (omega (arith, c .if1 .left))) .1)
+
+add-result : tie.Need-add-result
+add-result c = search (needs, (c .before .before .before .pre (omega (arith, c .before .if1 .left))) .1)
+
+shared-slice-read-result : tie.Need-shared-slice-read-result
+shared-slice-read-result c =
+    let z = c .before .before in
+    omega (arith, z .if1 .left, (z .before .before .pre (omega (arith, z .if1 .left))) .1)
+
+returns-2 : tie.Need-returns-2
+returns-2 c h =
+    let w = c .before .word in
+    let n = c .before .before .before .before .pre (omega (arith, c .before .before .if1 .left)) in
+    let t = and-both (eqb (w .result) 1) _ h in
+    (n .0, omega (arith, c .before .before .if1 .left, n .1), sym (w .ensures .0) ∙ eqb-true _ _ (t .0), eqb-true _ _ (t .1))
+
+pub tick-stands-spec : {M : Type 1} → statement M
+tick-stands-spec =
+    tie.close (tie.spec returns word-requires add-result shared-slice-read-result returns-2)
