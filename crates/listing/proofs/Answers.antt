@@ -13,7 +13,7 @@ use Rattle.listing.specs.declared.Listed.the-variants.{Text, Short}
 use Rattle.files.specs.File.{session}
 use Rattle.text.specs.Text.{tooLong}
 use Rattle.lines.specs.Pieces.{Piece}
-use Rattle.listing.specs.Listing.{longest, listing, text, memoryAfter, room}
+use Rattle.text.specs.Listing.{longest, listing, text, memoryAfter, room}
 use Rattle.listing.specs.Promises.{Lists}
 
 module _ (s m out : List ℕ) where

@@ -14,7 +14,7 @@ use Rattle.files.specs.declared.Item.the-variants.{Over}
 use Rattle.files.specs.File.{Session, verdict}
 use Rattle.files.proofs.Sessions.{Within}
 use Rattle.text.specs.Text.{line}
-use Rattle.listing.specs.Listing.{lines, levelsOf, ending, body}
+use Rattle.text.specs.Listing.{lines, levelsOf, ending, body}
 
 module _ (k : ℕ) (st : State) where
   pub body-event : (e : Event) (y : Session)

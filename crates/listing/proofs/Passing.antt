@@ -25,7 +25,7 @@ use Rattle.run.specs.Way.{Way, Passes}
 use Rattle.run.proofs.Ways.{event-stood, way-start, way-on, way-over, way-ends}
 use Rattle.lines.specs.Pieces.{Piece}
 use Rattle.lines.proofs.Joined.{then, piece-length}
-use Rattle.listing.specs.Listing.{levelsOf, ending}
+use Rattle.text.specs.Listing.{levelsOf, ending}
 use Rattle.listing.specs.Shortcuts.{InRun}
 use Rattle.listing.specs.Desk.{Desk, desk, Page, Writes, Fair, Passed}
 use Rattle.listing.proofs.Body.{body-event, body-end}

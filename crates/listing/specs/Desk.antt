@@ -15,7 +15,7 @@ use Rattle.run.specs.Run.{found}
 use Rattle.run.specs.Way.{Way}
 use Rattle.lines.specs.Pieces.{Piece}
 use Rattle.listing.specs.declared.hurry.Hurried.{Hurried}
-use Rattle.listing.specs.Listing.{body}
+use Rattle.text.specs.Listing.{body}
 use Rattle.listing.specs.Shortcuts.{InRun}
 
 -- the output so far and the place in it, the number of the next line, the board and its memory

@@ -1,4 +1,3 @@
-pub mod Listing
 pub mod Shortcuts
 pub mod Desk
 pub mod Promises

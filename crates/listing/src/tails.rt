@@ -4,7 +4,7 @@ ghost use mathlib.Core.Path.{_≡_};
 ghost use lib.ListN.{length};
 ghost use Rattle.files.specs.File.{faultNumber, verdict};
 ghost use Rattle.lines.specs.Pieces.{Piece};
-ghost use Rattle.listing.specs.Listing.{ending};
+ghost use Rattle.text.specs.Listing.{ending};
 use files::End;
 use files::Fault;
 use lines::put_tail;

@@ -6,7 +6,7 @@ ghost use Rattle.rules.specs.Record.{start};
 ghost use Rattle.rules.specs.Session.{after};
 ghost use Rattle.files.specs.File.{session};
 ghost use Rattle.lines.specs.Pieces.{Piece};
-ghost use Rattle.listing.specs.Listing.{listing};
+ghost use Rattle.text.specs.Listing.{listing};
 use crate::hurry::hurry;
 use crate::tails::put_end;
 use board::step;

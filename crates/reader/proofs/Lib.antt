@@ -1,3 +1,2 @@
 -- What is proved beside the functions.
-pub mod Commonest
 pub mod Unique

@@ -1,17 +1,9 @@
 // The session reader: the lent file bytes and the place of the next record. `item` takes the struct apart and calls the covered
-// function; `read_at` stands above, with plain parameters, and `look` above that.
+// function; `read_at` stands above, with plain parameters, and is what `next` of crate `run` calls for every record.
 ghost use Rattle.session.specs.Promises.{ItemTold};
 ghost use Rattle.reader.specs.Promises.{Opened};
-use crate::common::ahead;
-use crate::common::load_stands;
-use crate::common::quad;
-use crate::common::tick_stands;
 use files::Item;
-use rules::Event;
-use rules::Signal;
 use session::item_at;
-
-mod common;
 
 pub struct Reader<'a> {
     pub bytes: &'a [u8],
@@ -37,25 +29,4 @@ pub fn read_at(s: &[u8], at: usize) -> Item
     ensures { λ x. ⌜ ItemTold (now (s .entry)) at x ⌝ }
 {
     item(open(s, at))
-}
-
-// The same, and what `next` of crate `run` calls for every record: a tick or a write to 18h, as most records of a session are, is told by
-// its bytes alone, in half the time.
-pub fn look(s: &[u8], at: usize) -> Item
-    ensures { λ r. ⌜ ItemTold (now (s .entry)) at r ⌝ }
-{
-    let n = ahead(s, at);
-    if tick_stands(s, at, n) {
-        return Item::Got(Event::Signal(Signal::Tick), at + 3);
-    }
-    if load_stands(s, at, n) {
-        return Item::Got(
-            Event::Write {
-                offset: 24,
-                value: quad(s, at + 4),
-            },
-            at + 8,
-        );
-    }
-    read_at(s, at)
 }

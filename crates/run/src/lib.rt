@@ -6,7 +6,7 @@ ghost use Rattle.run.specs.Promises.{Tells, Advances, Runs};
 use board::step;
 use files::End;
 use files::Item;
-use reader::look;
+use reader::read_at;
 use record::unpowered;
 use rules::Answer;
 use rules::Board;
@@ -44,7 +44,7 @@ pub struct Ran {
 pub fn next(s: &[u8], c: Cursor) -> Ahead
     ensures { λ r. ⌜ Tells (now (s .entry)) c r ⌝ }
 {
-    let item = look(s, c.place);
+    let item = read_at(s, c.place);
     match item {
         Item::Got(e, place) => Ahead::Found(e, Cursor { place: place }),
         Item::Over(end) => Ahead::Over(end),

@@ -1,46 +1,64 @@
-use Prim.Native.Nat.{ℕ}
-use mathlib.Core.Path.{sym, ap, _∙_}
-use mathlib.Core.Bool.{Bool, not, _&&_}
+-- A record that is told by its bytes is the one that stands there; any other is read.
+use Prim.Native.Nat.{_+_}
+use mathlib.Core.Path.{sym, _∙_}
+use native.Mathlib.Omega.{arith}
 use borrow.Author.Needs.{needs}
-use lib.Dec.{eqb}
-use denote.Ref.{now}
-use Rattle.files.specs.File.{recordAt}
-use Rattle.session.proofs.Opening.{not-opened, opened}
+use Rattle.rules.specs.declared.Event.the-variants.{Write}
+use Rattle.files.specs.declared.Item.the-variants.{Got}
+use Rattle.session.proofs.Commonest.{tick-stands, load-stands}
 use Rattle.session.proofs.item_at.Statement.{statement}
 use Rattle.session.proofs.item_at.Tie as tie
 
-opened-requires : tie.Need-opened-requires
-opened-requires c κs = search needs
+ahead-requires : tie.Need-ahead-requires
+ahead-requires c κs = tt
 
-refused-requires : tie.Need-refused-requires
-refused-requires c κs = search needs
+tick-stands-requires : tie.Need-tick-stands-requires
+tick-stands-requires c κs = c .ahead .ensures
+
+add-t7 : tie.Need-add-t7
+add-t7 c = search (needs, (c .before .tick-stands .ensures (c .if1 .taken)) .1)
 
 returns : tie.Need-returns
 returns c =
-    let a = c .before .before .before .before .args in
-    let asked = ap (λ (o : Bool). eqb (a .at) 0 && not o) (c .before .before .opened .ensures) in
-    record { told = c .refused .ensures ∙ sym (not-opened (now (a .s)) (a .at) (sym asked ∙ c .before .if1 .taken)) }
+    let t = c .before .tick-stands .ensures (c .if1 .taken) in
+    record { told = sym (tick-stands _ _ (t .0) (t .1) (t .2) (t .3)) }
 
-behind-requires : tie.Need-behind-requires
-behind-requires c κs = search needs
+load-stands-requires : tie.Need-load-stands-requires
+load-stands-requires c κs = c .before .before .ahead .ensures
 
-record-at-requires : tie.Need-record-at-requires
-record-at-requires c κs = search needs
+add-quad-at : tie.Need-add-quad-at
+add-quad-at c = search (needs, (c .before .load-stands .ensures (c .if2 .taken)) .1)
+
+quad-at-requires : tie.Need-quad-at-requires
+quad-at-requires c κs = omega (arith, (c .before .load-stands .ensures (c .if2 .taken)) .1)
+
+add-t12 : tie.Need-add-t12
+add-t12 c = search (needs, (c .before .before .load-stands .ensures (c .before .if2 .taken)) .1)
 
 returns-2 : tie.Need-returns-2
 returns-2 c =
-    let a = c .before .before .before .before .before .args in
-    let asked = ap (λ (o : Bool). eqb (a .at) 0 && not o) (c .before .before .before .opened .ensures) in
-    let at = ap (recordAt (now (a .s))) (c .before .behind .ensures) in
-    record { told = c .record-at .ensures ∙ at ∙ sym (opened (now (a .s)) (a .at) (sym asked ∙ c .before .before .if1 .left)) }
+    let a = c .before .before .before .before .before .before .before .args in
+    let t = c .before .before .load-stands .ensures (c .before .if2 .taken) in
+    record { told = (λ i. Got (Write 24 (c .quad-at .ensures i)) (a .at + 8)) ∙ sym (load-stands _ _ (t .0) (t .1) (t .2) (t .3) (t .4)) }
+
+any-at-requires : tie.Need-any-at-requires
+any-at-requires c κs = tt
+
+returns-3 : tie.Need-returns-3
+returns-3 c = record { told = c .any-at .ensures }
 
 pub item-at-spec : {M : Type 1} → statement M
 item-at-spec =
     tie.close
     (tie.spec
-    opened-requires
-    refused-requires
+    ahead-requires
+    tick-stands-requires
+    add-t7
     returns
-    behind-requires
-    record-at-requires
-    returns-2)
+    load-stands-requires
+    add-quad-at
+    quad-at-requires
+    add-t12
+    returns-2
+    any-at-requires
+    returns-3)

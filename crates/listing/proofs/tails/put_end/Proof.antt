@@ -5,7 +5,7 @@ use borrow.Author.Needs.{needs}
 use Rattle.files.specs.declared.End.{End}
 use Rattle.files.specs.File.{verdict}
 use Rattle.lines.proofs.Joined.{printed-piece, piece-length}
-use Rattle.listing.specs.Listing.{ending}
+use Rattle.text.specs.Listing.{ending}
 use Rattle.listing.proofs.tails.put_end.Statement.{statement}
 use Rattle.listing.proofs.tails.put_end.Tie as tie
 

@@ -16,7 +16,7 @@ use Rattle.text.specs.Text.{heading}
 use Rattle.run.proofs.Ways.{end-stood, way-ends}
 use Rattle.lines.specs.Pieces.{Piece}
 use Rattle.lines.proofs.Joined.{then, piece-length, printed-piece}
-use Rattle.listing.specs.Listing.{body, listing}
+use Rattle.text.specs.Listing.{body, listing}
 use Rattle.listing.specs.Desk.{desk, Passed}
 use Rattle.listing.proofs.Body.{in-reach}
 use Rattle.listing.proofs.Passing.{passed-start, passed-then, passed-on, passed-over, tail-room, line-room, number-small}

@@ -4,8 +4,8 @@ use borrow.Author.Needs.{needs}
 use lib.Dec.{eqb, ltb}
 use lib.ListN.{length}
 use Rattle.rules.proofs.Choice.{or-neither}
-use Rattle.reader.proofs.common.ahead.Statement.{statement}
-use Rattle.reader.proofs.common.ahead.Tie as tie
+use Rattle.session.proofs.common.ahead.Statement.{statement}
+use Rattle.session.proofs.common.ahead.Tie as tie
 
 returns : tie.Need-returns
 returns c h = absurd (omega (arith, h))

@@ -7,14 +7,14 @@ use borrow.Author.Needs.{needs}
 use lib.Dec.{eqb}
 use Rattle.rules.proofs.Choice.{and-both}
 use Rattle.files.specs.File.{byteAt}
-use Rattle.reader.proofs.common.load_stands.Statement.{statement}
-use Rattle.reader.proofs.common.load_stands.Tie as tie
+use Rattle.session.proofs.common.load_stands.Statement.{statement}
+use Rattle.session.proofs.common.load_stands.Tie as tie
 
 returns : tie.Need-returns
 returns c h = absurd (false≢true h)
 
-word-requires : tie.Need-word-requires
-word-requires c κs = omega (arith, c .if1 .left, (c .before .before .pre (omega (arith, c .if1 .left))) .1)
+word-at-requires : tie.Need-word-at-requires
+word-at-requires c κs = omega (arith, c .if1 .left, (c .before .before .pre (omega (arith, c .if1 .left))) .1)
 
 add-result : tie.Need-add-result
 add-result c = search (needs, (c .before .before .before .pre (omega (arith, c .before .if1 .left))) .1)
@@ -34,7 +34,7 @@ shared-slice-read-result-2 c =
 
 returns-2 : tie.Need-returns-2
 returns-2 c h =
-    let w = c .before .before .word in
+    let w = c .before .before .word-at in
     let a = c .before .before .before .before .before .args in
     let n = c .before .before .before .before .before .pre (omega (arith, c .before .before .before .if1 .left)) in
     let t = and-both (eqb (w .result) 6) _ h in
@@ -51,7 +51,7 @@ load-stands-spec =
     tie.close
     (tie.spec
     returns
-    word-requires
+    word-at-requires
     add-result
     shared-slice-read-result
     add-result-2

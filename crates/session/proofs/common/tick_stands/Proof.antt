@@ -5,14 +5,14 @@ use borrow.Author.Tests.{eqb-true}
 use borrow.Author.Needs.{needs}
 use lib.Dec.{eqb}
 use Rattle.rules.proofs.Choice.{and-both}
-use Rattle.reader.proofs.common.tick_stands.Statement.{statement}
-use Rattle.reader.proofs.common.tick_stands.Tie as tie
+use Rattle.session.proofs.common.tick_stands.Statement.{statement}
+use Rattle.session.proofs.common.tick_stands.Tie as tie
 
 returns : tie.Need-returns
 returns c h = absurd (false≢true h)
 
-word-requires : tie.Need-word-requires
-word-requires c κs = omega (arith, c .if1 .left, (c .before .before .pre (omega (arith, c .if1 .left))) .1)
+word-at-requires : tie.Need-word-at-requires
+word-at-requires c κs = omega (arith, c .if1 .left, (c .before .before .pre (omega (arith, c .if1 .left))) .1)
 
 add-result : tie.Need-add-result
 add-result c = search (needs, (c .before .before .before .pre (omega (arith, c .before .if1 .left))) .1)
@@ -24,11 +24,11 @@ shared-slice-read-result c =
 
 returns-2 : tie.Need-returns-2
 returns-2 c h =
-    let w = c .before .word in
+    let w = c .before .word-at in
     let n = c .before .before .before .before .pre (omega (arith, c .before .before .if1 .left)) in
     let t = and-both (eqb (w .result) 1) _ h in
     (n .0, omega (arith, c .before .before .if1 .left, n .1), sym (w .ensures .0) ∙ eqb-true _ _ (t .0), eqb-true _ _ (t .1))
 
 pub tick-stands-spec : {M : Type 1} → statement M
 tick-stands-spec =
-    tie.close (tie.spec returns word-requires add-result shared-slice-read-result returns-2)
+    tie.close (tie.spec returns word-at-requires add-result shared-slice-read-result returns-2)

@@ -1,30 +1,11 @@
 // The two commonest records, a tick and a write to 18h, by their bytes.
-ghost use Prim.Native.Nat.{_+_, _-_, _<_, _≤_};
+ghost use Prim.Native.Nat.{_+_, _<_, _≤_};
 ghost use mathlib.Core.Path.{_≡_};
 ghost use mathlib.Core.Logic.{_≢_};
 ghost use mathlib.Core.Bool.{true};
 ghost use lib.ListN.{length};
-ghost use Rattle.files.specs.File.{byteAt, wordAt, quadAt};
-
-pub(crate) fn wide(b: u8) -> u32
-    ensures { λ r. ⌜ (r ≡ b) × (r < 256) ⌝ }
-{
-    b as u32
-}
-
-pub(crate) fn word(s: &[u8], at: usize) -> u32
-    requires { ⌜ at + 2 ≤ length (now s) ⌝ }
-    ensures { λ r. ⌜ (r ≡ wordAt (now (s .entry)) at) × (r < 65536) ⌝ }
-{
-    256 * wide(s[at]) + wide(s[at + 1])
-}
-
-pub(crate) fn quad(s: &[u8], at: usize) -> u32
-    requires { ⌜ at + 4 ≤ length (now s) ⌝ }
-    ensures { λ r. ⌜ r ≡ quadAt (now (s .entry)) at ⌝ }
-{
-    65536 * word(s, at) + word(s, at + 2)
-}
+ghost use Rattle.files.specs.File.{byteAt, wordAt};
+use crate::fields::word_at;
 
 // How many bytes stand from a place on; 0 at the start of the file, where no record stands.
 pub(crate) fn ahead(s: &[u8], at: usize) -> usize
@@ -43,7 +24,7 @@ pub(crate) fn tick_stands(s: &[u8], at: usize, n: usize) -> bool
     if n < 3 {
         return false;
     }
-    (word(s, at) == 1) & (s[at + 2] == 4)
+    (word_at(s, at) == 1) & (s[at + 2] == 4)
 }
 
 pub(crate) fn load_stands(s: &[u8], at: usize, n: usize) -> bool
@@ -53,5 +34,5 @@ pub(crate) fn load_stands(s: &[u8], at: usize, n: usize) -> bool
     if n < 8 {
         return false;
     }
-    (word(s, at) == 6) & ((s[at + 2] == 2) & (s[at + 3] == 24))
+    (word_at(s, at) == 6) & ((s[at + 2] == 2) & (s[at + 3] == 24))
 }
