@@ -70,7 +70,9 @@ fn lines(
 fn event_line(number: u32, answer: &Answer, count: u32, out: &mut Vec<u8>) {
     append(out, |line| {
         line.decimal(number);
-        line.bytes([b' ', b'0' + answer.refusal as u8, b' ']);
+        line.bytes([b' ']);
+        line.below_100(answer.refusal);
+        line.bytes([b' ']);
         line.bytes(hex::<8>(answer.register));
         line.bytes([b' ']);
         line.below_100(answer.moved);

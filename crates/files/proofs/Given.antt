@@ -12,7 +12,7 @@ use Rattle.files.specs.declared.Item.{Item}
 use Rattle.files.specs.declared.Item.the-variants.{Got, Over}
 use Rattle.files.specs.File.{byteAt, wordAt, lengthOf, wholeRecord, recordAt, itemAt}
 use Rattle.files.specs.Laws.{Known, Whole, Record, ended, halfLength, shortBody, lengthZero, unknown, lengthWrong, event}
-use Rattle.files.specs.Laws.{Stands, badVersion, first, later, Item-exactly, Item-grows}
+use Rattle.files.specs.Laws.{ItemGiven, badVersion, first, later, Item-exactly, Item-grows}
 use Rattle.files.proofs.Lengths.{known-length, known-some, length-known, unknown-zero, zero-unknown}
 
 -- ---- A record that is given so is the one
@@ -65,20 +65,20 @@ module _ (s : List ℕ) (at : ℕ) where
 
 -- ---- At any place
 
-pub stands : (s : List ℕ) (at : ℕ) → Stands s at (itemAt s at)
+pub item-given : (s : List ℕ) (at : ℕ) → ItemGiven s at (itemAt s at)
 unfolding itemAt
-stands s zero =
-    cases (Stands s 0) (eqb (byteAt s 0) 1) (λ t. first (eqb-true _ _ t) _ (given-one s 1)) (λ f. badVersion (eqb-false _ _ f))
-stands s (suc at) = later at _ (given-one s (suc at))
+item-given s zero =
+    cases (ItemGiven s 0) (eqb (byteAt s 0) 1) (λ t. first (eqb-true _ _ t) _ (given-one s 1)) (λ f. badVersion (eqb-false _ _ f))
+item-given s (suc at) = later at _ (given-one s (suc at))
 
-pub stands-given : (s : List ℕ) (at : ℕ) (i : Item) → Stands s at i → itemAt s at ≡ i
+pub given-item : (s : List ℕ) (at : ℕ) (i : Item) → ItemGiven s at i → itemAt s at ≡ i
 unfolding itemAt
-stands-given s at i (badVersion h) = cond-false _ _ _ (ne-eqb _ _ h)
-stands-given s at i (first h j r) = cond-true _ _ _ (eq-eqb _ _ h) ∙ record-given s 1 j r
-stands-given s at i (later k j r) = record-given s (suc k) j r
+given-item s at i (badVersion h) = cond-false _ _ _ (ne-eqb _ _ h)
+given-item s at i (first h j r) = cond-true _ _ _ (eq-eqb _ _ h) ∙ record-given s 1 j r
+given-item s at i (later k j r) = record-given s (suc k) j r
 
 pub item-exactly : Item-exactly
-item-exactly s at i = (λ e. subst (Stands s at) e (stands s at), stands-given s at i)
+item-exactly s at i = (λ e. subst (ItemGiven s at) e (item-given s at), given-item s at i)
 
 -- past the start of the file it is the record's
 pub item-later : (s : List ℕ) (at : ℕ) → at ≢ 0 → itemAt s at ≡ recordAt s at
@@ -105,10 +105,10 @@ started : (s : List ℕ) (i : Item) → Grows s 1 i → Grows s 0 i
 started s (Got e next) g = (omega (arith, g .0), g .1)
 started s (Over x) g = tt
 
-stands-grows : (s : List ℕ) (at : ℕ) (i : Item) → Stands s at i → Grows s at i
-stands-grows s at i (badVersion h) = tt
-stands-grows s at i (first h j r) = started s j (record-grows s 1 j r)
-stands-grows s at i (later k j r) = record-grows s (suc k) j r
+given-grows : (s : List ℕ) (at : ℕ) (i : Item) → ItemGiven s at i → Grows s at i
+given-grows s at i (badVersion h) = tt
+given-grows s at i (first h j r) = started s j (record-grows s 1 j r)
+given-grows s at i (later k j r) = record-grows s (suc k) j r
 
 pub item-grows : Item-grows
-item-grows s at e next h = stands-grows s at (Got e next) (item-exactly s at (Got e next) .0 h)
+item-grows s at e next h = given-grows s at (Got e next) (item-exactly s at (Got e next) .0 h)

@@ -9,8 +9,8 @@ use Rattle.files.specs.declared.End.the-variants.{File, Refused}
 use Rattle.files.specs.declared.Item.{Item}
 use Rattle.files.specs.declared.Item.the-variants.{Got, Over}
 use Rattle.files.specs.File.{itemAt, onItem, from, session}
-use Rattle.files.specs.Laws.{Record, ended, halfLength, shortBody, lengthZero, unknown, lengthWrong, event, Stands, badVersion, first, later, Session-refused}
-use Rattle.files.proofs.Given.{record-given, stands, stands-given}
+use Rattle.files.specs.Laws.{Record, ended, halfLength, shortBody, lengthZero, unknown, lengthWrong, event, ItemGiven, badVersion, first, later, Session-refused}
+use Rattle.files.proofs.Given.{record-given, item-given, given-item}
 
 -- what an item says of the place that it names
 abbrev There : List ℕ → Item → Type 0
@@ -28,15 +28,15 @@ record-there s at i (unknown w z u) = record-given s (suc at) _ (unknown w z u)
 record-there s at i (lengthWrong n w z k e) = record-given s (suc at) _ (lengthWrong n w z k e)
 record-there s at i (event w k) = tt
 
-stands-there : (s : List ℕ) (at : ℕ) (i : Item) → Stands s at i → There s i
-stands-there s at i (badVersion h) = stands-given s 0 _ (badVersion h)
-stands-there s at i (first h j r) = record-there s 0 j r
-stands-there s at i (later k j r) = record-there s k j r
+given-there : (s : List ℕ) (at : ℕ) (i : Item) → ItemGiven s at i → There s i
+given-there s at i (badVersion h) = given-item s 0 _ (badVersion h)
+given-there s at i (first h j r) = record-there s 0 j r
+given-there s at i (later k j r) = record-there s k j r
 
 ends-there : (f : ℕ) (s : List ℕ) (at : ℕ) → There s (Over ((from f s at) .end))
 unfolding from
 ends-there zero s at = tt
-ends-there (suc f) s at = go (ends-there f s) (itemAt s at) (stands-there s at _ (stands s at))
+ends-there (suc f) s at = go (ends-there f s) (itemAt s at) (given-there s at _ (item-given s at))
   where
     go : ((next : ℕ) → There s (Over ((from f s next) .end))) → (i : Item) → There s i → There s (Over ((onItem (from f s) i) .end))
     go rest (Got e next) t = rest next
@@ -62,7 +62,7 @@ record-within s at i (unknown w z u) = omega arith
 record-within s at i (lengthWrong n w z k e) = omega arith
 record-within s at i (event w k) = tt
 
-pub stands-within : (s : List ℕ) (at : ℕ) (i : Item) → Stands s at i → Within s i
-stands-within s at i (badVersion h) = omega arith
-stands-within s at i (first h j r) = record-within s 1 j r
-stands-within s at i (later k j r) = record-within s (suc k) j r
+pub given-within : (s : List ℕ) (at : ℕ) (i : Item) → ItemGiven s at i → Within s i
+given-within s at i (badVersion h) = omega arith
+given-within s at i (first h j r) = record-within s 1 j r
+given-within s at i (later k j r) = record-within s (suc k) j r

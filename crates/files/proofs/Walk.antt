@@ -17,7 +17,7 @@ use Rattle.files.specs.File.{faultNumber, Verdict, verdict, byteAt, reco
 use Rattle.files.specs.Laws.{Record, ended, halfLength, shortBody, lengthZero, unknown, lengthWrong, event, badVersion}
 use Rattle.files.specs.Laws.{Reached, opened, passed, FileGiven, notOpened, inLength, inBody, zeroLength, unknownKind, wrongLength, done, File-exactly}
 use Rattle.files.proofs.Lengths.{known-some}
-use Rattle.files.proofs.Given.{record-given, given-one, stands-given, item-later}
+use Rattle.files.proofs.Given.{record-given, given-one, given-item, item-later}
 use Rattle.files.proofs.Rests.{rest-got, rest-over}
 
 -- ---- Where the walk comes to
@@ -68,7 +68,7 @@ over-ends s at z r h =
 -- and without a good version byte at once
 pub version-ends : (s : List ℕ) → byteAt s 0 ≢ 1 → (session s) .end ≡ Refused Version 0
 unfolding session from
-version-ends s h = ap (λ (i : Item). (onItem (from (length s) s) i) .end) (stands-given s 0 _ (badVersion h))
+version-ends s h = ap (λ (i : Item). (onItem (from (length s) s) i) .end) (given-item s 0 _ (badVersion h))
 
 given-file : (s : List ℕ) (n p : ℕ) → FileGiven s n p → verdict ((session s) .end) ≡ record { number = n; place = p }
 unfolding faultNumber

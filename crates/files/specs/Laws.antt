@@ -46,13 +46,13 @@ pub data Record (s : List ℕ) (at : ℕ) : Item → Type 0 where
   event : Whole s at → Known (byteAt s (at + 2)) (wordAt s at) → Record s at (Got (eventAt s (at + 2)) (at + 2 + wordAt s at))
 
 -- an empty file's first byte counts as 0 here, and so as not 01
-pub data Stands (s : List ℕ) : ℕ → Item → Type 0 where
-  badVersion : byteAt s 0 ≢ 1 → Stands s 0 (Over (Refused Version 0))
-  first : byteAt s 0 ≡ 1 → (i : Item) → Record s 1 i → Stands s 0 i
-  later : (at : ℕ) (i : Item) → Record s (suc at) i → Stands s (suc at) i
+pub data ItemGiven (s : List ℕ) : ℕ → Item → Type 0 where
+  badVersion : byteAt s 0 ≢ 1 → ItemGiven s 0 (Over (Refused Version 0))
+  first : byteAt s 0 ≡ 1 → (i : Item) → Record s 1 i → ItemGiven s 0 i
+  later : (at : ℕ) (i : Item) → Record s (suc at) i → ItemGiven s (suc at) i
 
 abbrev pub Item-exactly : Type 0
-Item-exactly = (s : List ℕ) (at : ℕ) (i : Item) → (itemAt s at ≡ i) ↔ Stands s at i
+Item-exactly = (s : List ℕ) (at : ℕ) (i : Item) → (itemAt s at ≡ i) ↔ ItemGiven s at i
 
 abbrev pub Item-grows : Type 0
 Item-grows = (s : List ℕ) (at : ℕ) (e : Event) (next : ℕ) → itemAt s at ≡ Got e next → (at + 3 ≤ next) × (next ≤ length s)

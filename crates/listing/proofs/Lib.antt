@@ -1,6 +1,6 @@
 -- What the functions' proofs cite; each file opens with what it shows.
 pub mod Body
-pub mod Passing
+pub mod Walking
 pub mod Answers
 pub mod Unique
 pub mod AtOnce

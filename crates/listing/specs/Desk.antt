@@ -1,7 +1,7 @@
 -- What the loops over a session hold while they write its listing. For the code.
 --   Writes o k x           o is the page when the session x is played and written on from the desk k
 --   Fair s c k             at the cursor c the desk k has room for the rest, and its board is one of a run
---   Passed s c k c′ k′     from the cursor c and the desk k, events were played and written as far as c′ and k′
+--   Walked s c k c′ k′     from the cursor c and the desk k, events were played and written as far as c′ and k′
 use Prim.Native.Nat.{ℕ, _+_, _*_, _-_, _≤_}
 use mathlib.Core.Path.{_≡_}
 use mathlib.Core.List.{List}
@@ -45,7 +45,7 @@ pub record Fair (s : List ℕ) (c : Cursor) (k : Desk) : Type 0 where
   pub room : k .at + 134 + 22 * (length s - c .place) ≤ length (k .out)
   pub sound : InRun (k .state)
 
-pub record Passed (s : List ℕ) (c : Cursor) (k : Desk) (c′ : Cursor) (k′ : Desk) : Type 0 where
+pub record Walked (s : List ℕ) (c : Cursor) (k : Desk) (c′ : Cursor) (k′ : Desk) : Type 0 where
   pub fair : Fair s c′ k′
   pub way : (start : Desk) → Way Writes s start k c → Way Writes s start k′ c′
   pub nearer : length s - c′ .place ≤ length s - c .place
@@ -54,4 +54,4 @@ pub record Passed (s : List ℕ) (c : Cursor) (k : Desk) (c′ : Cursor) (k′ :
 pub record Hurries (s : List ℕ) (c : Cursor) (k : Desk) (r : Hurried) (m′ out′ : List ℕ) : Type 0 where
   pub cursor : Cursor
   pub stands : r .ahead ≡ found s cursor
-  pub passed : Passed s c k cursor (desk (r .board) m′ out′ (r .at) (r .number))
+  pub walked : Walked s c k cursor (desk (r .board) m′ out′ (r .at) (r .number))

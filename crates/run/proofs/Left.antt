@@ -9,11 +9,11 @@ use Rattle.files.specs.declared.End.{End}
 use Rattle.files.specs.File.{Session}
 use Rattle.run.specs.Way.{Passes}
 
-pub record Outcome : Type 0 where
+pub record Finish : Type 0 where
   pub state : State
   pub end : End
 
-pub record Leaves (o : Outcome) (st : State) (x : Session) : Type 0 where
+pub record Leaves (o : Finish) (st : State) (x : Session) : Type 0 where
   pub state : o .state ≡ after st (x .events)
   pub end : o .end ≡ x .end
 

@@ -17,9 +17,9 @@ use Rattle.run.proofs.Ways.{way-ends}
 use Rattle.lines.proofs.Joined.{printed-piece}
 use Rattle.listing.specs.declared.hurry.Hurried.{Hurried}
 use Rattle.listing.specs.Shortcuts.{commonEvent, boardWith, replyOf}
-use Rattle.listing.specs.Desk.{desk, Passed, Hurries}
+use Rattle.listing.specs.Desk.{desk, Walked, Hurries}
 use Rattle.listing.proofs.AtOnce.{quick-some}
-use Rattle.listing.proofs.Passing.{passed-start, passed-then, passed-on, line-room, number-small}
+use Rattle.listing.proofs.Walking.{walked-start, walked-then, walked-on, line-room, number-small}
 use Rattle.listing.proofs.hurry.hurry.Statement.{statement}
 use Rattle.listing.proofs.hurry.hurry.Tie as tie
 
@@ -30,7 +30,7 @@ boardNow rest core levels ring = record { core = lent core levels; size = rest .
 abbrev Inv-loop : tie.InvT-loop
 Inv-loop s b place first memory₀ out₀ d core₀ levels₀ ring₀ c₀ at₀ number₀ memory out core levels ring c at number =
     (length memory ≡ length memory₀) × (length out ≡ length out₀)
-    × Passed s c₀ (desk b memory₀ out₀ place first) c (desk (boardNow b core levels ring) memory out at number)
+    × Walked s c₀ (desk b memory₀ out₀ place first) c (desk (boardNow b core levels ring) memory out at number)
 
 abbrev μ-loop : tie.MeasureT-loop
 μ-loop s b place first memory₀ out₀ d core₀ levels₀ ring₀ c₀ at₀ number₀ memory out core levels ring c at number = length s - c .place
@@ -41,7 +41,7 @@ depth-requires c κs = tt
 loop-holds : tie.Need-loop-holds Inv-loop μ-loop
 loop-holds c =
     let a = c .before .before .before .before .before .before .before in
-    (refl, refl, passed-start (a .args .s .now) (a .args .from) _ (a .pre .1))
+    (refl, refl, walked-start (a .args .s .now) (a .args .from) _ (a .pre .1))
 
 next-requires : tie.Need-next-requires Inv-loop μ-loop
 next-requires c κs = tt
@@ -80,7 +80,7 @@ returns c =
     let told : c .stopped .result ≡ record { board = boardNow (a .b) (l .core) (l .levels) (l .ring); ahead = c .before .before .before .before .before .before .before .next .result; at = l .at; number = l .number } =
     c .stopped .ensures ∙ (λ i. record { board = whole i; ahead = c .before .before .before .before .before .before .before .next .result; at = l .at; number = l .number }) in
     subst (λ (r : Hurried). Hurries (a .s .now) (a .from) (desk (a .b) (a .memory .now) (a .out .now) (a .place) (a .first)) r (l .memory) (l .out)) (sym told)
-    (record { cursor = l .c; stands = c .before .before .before .before .before .before .before .next .ensures .told; passed = l .inv .2 })
+    (record { cursor = l .c; stands = c .before .before .before .before .before .before .before .next .ensures .told; walked = l .inv .2 })
 
 at-once-requires : tie.Need-at-once-requires Inv-loop μ-loop
 at-once-requires c κs =
@@ -116,7 +116,7 @@ loop-again c =
     let f = l .inv .2 .fair in
     let put = c .before .before .before .put-done in
     let line = printed-piece (put .ensures) (line-room _ _ now _ _ _ _ f) in
-    (o .at-once .kept .1 .1 .1 .1 .1 .0 ∙ l .inv .0, put .kept .0 ∙ l .inv .1, passed-then _ _ _ _ _ _ _ (l .inv .2) (passed-on (a .s .now) (l .c) now (l .memory) (l .out) (l .at) (l .number) f _ event stood _ _ _ _ stepped line))
+    (o .at-once .kept .1 .1 .1 .1 .1 .0 ∙ l .inv .0, put .kept .0 ∙ l .inv .1, walked-then _ _ _ _ _ _ _ (l .inv .2) (walked-on (a .s .now) (l .c) now (l .memory) (l .out) (l .at) (l .number) f _ event stood _ _ _ _ stepped line))
 
 pub hurry-spec : {M : Type 1} → statement M
 hurry-spec =

@@ -11,22 +11,22 @@ use Rattle.rules.specs.Record.{State, unpowered, stateOf, start}
 use Rattle.rules.specs.Session.{after}
 use Rattle.files.specs.File.{session}
 use Rattle.files.proofs.Given.{item-exactly}
-use Rattle.files.proofs.Sessions.{stands-within}
+use Rattle.files.proofs.Sessions.{given-within}
 use Rattle.text.specs.Text.{heading}
 use Rattle.run.proofs.Ways.{end-stood, way-ends}
 use Rattle.lines.specs.Pieces.{Piece}
 use Rattle.lines.proofs.Joined.{then, piece-length, printed-piece}
 use Rattle.text.specs.Listing.{body, listing}
-use Rattle.listing.specs.Desk.{desk, Passed}
+use Rattle.listing.specs.Desk.{desk, Walked}
 use Rattle.listing.proofs.Body.{in-reach}
-use Rattle.listing.proofs.Passing.{passed-start, passed-then, passed-on, passed-over, tail-room, line-room, number-small}
+use Rattle.listing.proofs.Walking.{walked-start, walked-then, walked-on, walked-over, tail-room, line-room, number-small}
 use Rattle.listing.proofs.whole.put_listing.Statement.{statement}
 use Rattle.listing.proofs.whole.put_listing.Tie as tie
 
 abbrev Inv-loop : tie.InvT-loop
 Inv-loop s memory₀ out₀ at₀ b₀ c₀ number₀ memory out at b c number =
     (length memory ≡ length memory₀) × (length out ≡ length out₀)
-    × Passed s (record { place = 0 }) (desk b₀ memory₀ out₀ at₀ 1) c (desk b memory out at number)
+    × Walked s (record { place = 0 }) (desk b₀ memory₀ out₀ at₀ 1) c (desk b memory out at number)
 
 abbrev μ-loop : tie.MeasureT-loop
 μ-loop s memory₀ out₀ at₀ b₀ c₀ number₀ memory out at b c number = length s - c .place
@@ -48,7 +48,7 @@ loop-holds c =
     let dark = ap (λ (b : Board). b .core .powered) (c .unpowered .ensures .board) in (
       refl,
       refl,
-      passed-start (z .args .s .now) _ _
+      walked-start (z .args .s .now) _ _
           (record {
             within = omega arith;
             numbered = omega arith;
@@ -74,14 +74,14 @@ put-line-requires c κs = tt
 add-number : tie.Need-add-number Inv-loop μ-loop
 add-number c =
     let q = c .before .before .before .before .before .before .before .before .before .before .before .before .before .before .before .before .before .before .before in
-    record { fits = omega (arith, number-small _ _ _ _ _ _ _ (q .hurry .ensures .passed .fair) (q .before .before .before .before .before .before .before .before .before .before .before .before .before .pre .0)) }
+    record { fits = omega (arith, number-small _ _ _ _ _ _ _ (q .hurry .ensures .walked .fair) (q .before .before .before .before .before .before .before .before .before .before .before .before .before .pre .0)) }
 
 loop-less : tie.Need-loop-less Inv-loop μ-loop
 loop-less c =
     let q = c .before .before .before .before .before .before .before .before .before .before .before .before .before .before .before .before .before .before .before in
     let n = c .before .before .before .before .before .before .before .before .before .before .before .before .n .given in
     let h = q .hurry .ensures in
-    omega (arith, h .passed .nearer, way-ends (q .before .before .before .before .before .before .before .before .before .before .before .before .before .args .s .now) (h .cursor) (n .0 .1 .0) (n .0 .0) (sym (h .stands) ∙ n .1))
+    omega (arith, h .walked .nearer, way-ends (q .before .before .before .before .before .before .before .before .before .before .before .before .before .args .s .now) (h .cursor) (n .0 .1 .0) (n .0 .0) (sym (h .stands) ∙ n .1))
 
 loop-again : tie.Need-loop-again Inv-loop μ-loop
 loop-again c =
@@ -90,14 +90,14 @@ loop-again c =
     let l = q .before .before .before .loop in
     let n = p .before .before .before .n .given in
     let h = q .hurry .ensures in
-    let f = h .passed .fair in
+    let f = h .walked .fair in
     let stepped = p .step .ensures in
     let put = c .before .before .before .put-line in
     let line = printed-piece (put .ensures) (line-room _ _ (q .hurry .result .board) _ _ _ _ f) in (
       p .step .kept .1 .0 ∙ q .hurry .kept .1 .1 .1 .1 .1 .0 ∙ l .inv .0,
       put .kept .0 ∙ q .hurry .kept .1 .1 .1 .1 .1 .1 .0 ∙ l .inv .1,
-      passed-then _ _ _ _ _ _ _ (l .inv .2)
-          (passed-then _ _ _ _ _ _ _ (h .passed) (passed-on _ (h .cursor) (q .hurry .result .board) _ _ _ _ f (n .0 .1 .0) (n .0 .0) (sym (h .stands) ∙ n .1) _ _ _ _ stepped line)),
+      walked-then _ _ _ _ _ _ _ (l .inv .2)
+          (walked-then _ _ _ _ _ _ _ (h .walked) (walked-on _ (h .cursor) (q .hurry .result .board) _ _ _ _ f (n .0 .1 .0) (n .0 .0) (sym (h .stands) ∙ n .1) _ _ _ _ stepped line)),
     )
 
 enum-known-n-2 : tie.Need-enum-known-n-2 Inv-loop μ-loop
@@ -110,7 +110,7 @@ put-end-requires c κs =
     let h = q .hurry .ensures in
     let n = c .before .before .before .n2 .given in
     let stood = end-stood (a .args .s .now) (h .cursor) (n .0 .0) (sym (h .stands) ∙ n .1) in
-    (tail-room _ _ (q .hurry .result .board) _ _ _ _ (h .passed .fair), in-reach (a .args .s .now) (n .0 .0) (a .pre .0) (stands-within (a .args .s .now) (h .cursor .place) _ (item-exactly (a .args .s .now) (h .cursor .place) _ .0 stood)))
+    (tail-room _ _ (q .hurry .result .board) _ _ _ _ (h .walked .fair), in-reach (a .args .s .now) (n .0 .0) (a .pre .0) (given-within (a .args .s .now) (h .cursor .place) _ (item-exactly (a .args .s .now) (h .cursor .place) _ .0 stood)))
 
 same-length : tie.Need-same-length Inv-loop μ-loop
 same-length c =
@@ -133,8 +133,8 @@ returns c =
     let h = q .hurry .ensures in
     let n = c .before .before .before .before .before .before .n2 .given in
     let put = c .before .before .put-end in
-    let passed = passed-then _ _ _ _ _ _ _ (l .loop .inv .2) (h .passed) in
-    let w = passed-over (a .args .s .now) _ (h .cursor) _ (n .0 .0) (put .last .0) (put .result) passed (sym (h .stands) ∙ n .1) (put .ensures) in
+    let walked = walked-then _ _ _ _ _ _ _ (l .loop .inv .2) (h .walked) in
+    let w = walked-over (a .args .s .now) _ (h .cursor) _ (n .0 .0) (put .last .0) (put .result) walked (sym (h .stands) ∙ n .1) (put .ensures) in
     let start = ap (λ (b : Board). stateOf b (a .args .memory .now)) (l .before .unpowered .ensures .board) in
     let head = printed-piece (t .put-text .ensures) (omega (arith, a .pre .1)) in (
       then head (subst (λ (st : State). Piece (t .put-text .last .0) (t .put-text .result) (body 1 st (session (a .args .s .now))) (put .last .0) (put .result)) start (w .text)),

@@ -27,16 +27,16 @@ use Rattle.lines.specs.Pieces.{Piece}
 use Rattle.lines.proofs.Joined.{then, piece-length}
 use Rattle.text.specs.Listing.{levelsOf, ending}
 use Rattle.listing.specs.Shortcuts.{InRun}
-use Rattle.listing.specs.Desk.{Desk, desk, Page, Writes, Fair, Passed}
+use Rattle.listing.specs.Desk.{Desk, desk, Page, Writes, Fair, Walked}
 use Rattle.listing.proofs.Body.{body-event, body-end}
 use Rattle.listing.proofs.AtOnce.{in-run-step}
 
-pub passed-start : (s : List ℕ) (c : Cursor) (k : Desk) → Fair s c k → Passed s c k c k
-passed-start s c k f = record { fair = f; way = λ start w. w; nearer = le-refl _ }
+pub walked-start : (s : List ℕ) (c : Cursor) (k : Desk) → Fair s c k → Walked s c k c k
+walked-start s c k f = record { fair = f; way = λ start w. w; nearer = le-refl _ }
 
-pub passed-then : (s : List ℕ) (c : Cursor) (k : Desk) (c1 : Cursor) (k1 : Desk) (c2 : Cursor) (k2 : Desk)
-    → Passed s c k c1 k1 → Passed s c1 k1 c2 k2 → Passed s c k c2 k2
-passed-then s c k c1 k1 c2 k2 p q =
+pub walked-then : (s : List ℕ) (c : Cursor) (k : Desk) (c1 : Cursor) (k1 : Desk) (c2 : Cursor) (k2 : Desk)
+    → Walked s c k c1 k1 → Walked s c1 k1 c2 k2 → Walked s c k c2 k2
+walked-then s c k c1 k1 c2 k2 p q =
     record { fair = q .fair; way = λ start w. q .way start (p .way start w); nearer = omega (arith, p .nearer, q .nearer) }
 
 module _ (s : List ℕ) (c : Cursor) (b : Board) (m out : List ℕ) (at number : ℕ) (f : Fair s c (desk b m out at number)) where
@@ -63,8 +63,8 @@ module _ (s : List ℕ) (c : Cursor) (b : Board) (m out : List ℕ) (at number :
         subst (λ (st : State). Writes o (record { out = out′; at = at′; number = number + 1; state = st }) x → Writes o (desk b m out at number) (record { events = e ∷ x .events; end = x .end })) left
         (λ v. record { text = rw (body-event number (stateOf b m) e x) (then told (v .text)); memory = v .memory }) g
 
-    pub passed-on : Passed s c (desk b m out at number) after (desk (r .board) m′ out′ at′ (number + 1))
-    passed-on =
+    pub walked-on : Walked s c (desk b m out at number) after (desk (r .board) m′ out′ at′ (number + 1))
+    walked-on =
         let grows = item-grows s (c .place) e (after .place) (event-stood s c after e h) in
         record {
           fair = record {
@@ -78,10 +78,10 @@ module _ (s : List ℕ) (c : Cursor) (b : Board) (m out : List ℕ) (at number :
         }
 
 -- the whole file, from its start
-pub passed-over : (s : List ℕ) (start : Desk) (c : Cursor) (k : Desk) (z : End) (out′ : List ℕ) (at′ : ℕ)
-    → Passed s (record { place = 0 }) start c k → found s c ≡ Over z → Piece (k .out) (k .at) (ending z (levelsOf (k .state))) out′ at′
+pub walked-over : (s : List ℕ) (start : Desk) (c : Cursor) (k : Desk) (z : End) (out′ : List ℕ) (at′ : ℕ)
+    → Walked s (record { place = 0 }) start c k → found s c ≡ Over z → Piece (k .out) (k .at) (ending z (levelsOf (k .state))) out′ at′
     → Writes (record { out = out′; at = at′; memory = k .state .memory }) start (session s)
 unfolding after
-passed-over s start c k z out′ at′ p h w =
+walked-over s start c k z out′ at′ p h w =
     way-over Page Desk Writes s start k c z _ (p .way start (way-start Page Desk Writes s start)) h
     (record { text = rw (body-end (k .number) (k .state) z) w; memory = refl })
