@@ -2,13 +2,13 @@
 use Prim.Native.Nat.{ℕ, _%_, _≤_, _<_}
 use mathlib.Core.Path.{_≡_, refl, sym, ap, subst, _∙_}
 use mathlib.Core.Logic.{_≢_}
-use mathlib.Core.Bool.{Bool, true, false, _&&_, false≢true}
+use mathlib.Core.Bool.{Bool, true, false, cond, _&&_, false≢true}
 use mathlib.Core.List.{List}
 use native.Mathlib.Nat.{le-refl, min-eq-right}
 use native.Mathlib.Omega.{arith}
 use borrow.Author.Tests.{eqb-true, ne-eqb, leb-true, ltb-true, not-true, lt-leb}
 use lib.Dec.{eqb, leb}
-use Rattle.rules.specs.declared.Signal.the-variants.{Tick}
+use Rattle.rules.specs.declared.Signal.the-variants.{Tick, Outside, Trigger, Passed, Failed, Settled}
 use Rattle.rules.specs.declared.Event.{Event}
 use Rattle.rules.specs.declared.Event.the-variants.{PowerUp, Write, Read, Signal as signal}
 use Rattle.rules.specs.declared.Core.{Core}
@@ -39,7 +39,10 @@ use Rattle.moves.proofs.Entries.{load-whole}
 use Rattle.board.specs.Promises.{Stepped}
 use Rattle.board.proofs.Standing.{stands-ready}
 use Rattle.board.proofs.Whole.{done-stepped}
-use Rattle.listing.specs.Shortcuts.{commonEvent, takes, ticks, quick, boardWith, InRun}
+use Rattle.run.specs.declared.Ahead.{Ahead}
+use Rattle.run.specs.declared.Ahead.the-variants.{Found, Over}
+use Rattle.listing.specs.declared.shortcuts.Common.{Common}
+use Rattle.listing.specs.Shortcuts.{commonEvent, nothing, commonOf, takes, ticks, quick, boardWith, InRun}
 
 -- ---- The states of a run
 
@@ -227,3 +230,26 @@ takes-with b d ls = refl
 pub ticks-with : (c : Core) (ls : List ℕ) → ticks (lent c ls) ≡ ticks c
 unfolding ticks
 ticks-with c ls = refl
+
+-- ---- What stands ahead
+
+-- where its kind is not 0, it is the event that its kind and its value say
+pub common-stands : (n : Ahead) → (commonOf n) .kind ≢ 0 → n ≡ Found (commonEvent ((commonOf n) .kind) ((commonOf n) .value)) ((commonOf n) .after)
+unfolding commonEvent
+common-stands (Found (Write o v) c) z = go (eqb o 0x18) refl z
+  where
+    made : Bool → Common
+    made t = cond t (record { kind = 1; value = v; after = c }) nothing
+
+    go : (t : Bool) → eqb o 0x18 ≡ t → (made t) .kind ≢ 0 → Found (Write o v) c ≡ Found (commonEvent ((made t) .kind) ((made t) .value)) ((made t) .after)
+    go true e z = λ i. Found (Write (eqb-true o 0x18 e i) v) c
+    go false e z = absurd (z refl)
+common-stands (Found (signal Tick) c) z = refl
+common-stands (Found (signal Outside) c) z = absurd (z refl)
+common-stands (Found (signal Trigger) c) z = absurd (z refl)
+common-stands (Found (signal Passed) c) z = absurd (z refl)
+common-stands (Found (signal Failed) c) z = absurd (z refl)
+common-stands (Found (signal Settled) c) z = absurd (z refl)
+common-stands (Found (PowerUp x) c) z = absurd (z refl)
+common-stands (Found (Read o) c) z = absurd (z refl)
+common-stands (Over x) z = absurd (z refl)

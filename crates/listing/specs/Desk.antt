@@ -6,17 +6,26 @@ use Prim.Native.Nat.{ℕ, _+_, _*_, _-_, _≤_}
 use mathlib.Core.Path.{_≡_}
 use mathlib.Core.List.{List}
 use lib.ListN.{length}
+use Rattle.rules.specs.declared.Event.{Event}
+use Rattle.rules.specs.declared.Core.{Core}
+use Rattle.rules.specs.declared.Ring.{Ring}
 use Rattle.rules.specs.declared.Board.{Board}
 use Rattle.rules.specs.Record.{State, stateOf}
 use Rattle.rules.specs.Session.{after}
 use Rattle.files.specs.File.{Session}
+use Rattle.moves.specs.Promises.{lent}
+use Rattle.board.specs.Promises.{Stepped}
+use Rattle.text.specs.Text.{line}
 use Rattle.run.specs.declared.Cursor.{Cursor}
+use Rattle.run.specs.declared.Ahead.{Ahead}
+use Rattle.run.specs.declared.Ahead.the-variants.{Found}
 use Rattle.run.specs.Run.{found}
 use Rattle.run.specs.Way.{Way}
 use Rattle.lines.specs.Pieces.{Piece}
+use Rattle.listing.specs.declared.hurry.Hastened.{Hastened}
 use Rattle.listing.specs.declared.hurry.Hurried.{Hurried}
 use Rattle.text.specs.Listing.{body}
-use Rattle.listing.specs.Shortcuts.{InRun}
+use Rattle.listing.specs.Shortcuts.{InRun, replyOf}
 
 -- the output so far and the place in it, the number of the next line, the board and its memory
 pub record Desk : Type 0 where
@@ -49,6 +58,23 @@ pub record Walked (s : List ℕ) (c : Cursor) (k : Desk) (c′ : Cursor) (k′ :
   pub fair : Fair s c′ k′
   pub way : (start : Desk) → Way Writes s start k c → Way Writes s start k′ c′
   pub nearer : length s - c′ .place ≤ length s - c .place
+
+-- ---- What is done at once
+
+-- the board of its parts: those that no load and no tick changes stand in `rest`
+abbrev pub boardNow : Board → Core → List ℕ → Ring → Board
+boardNow rest core levels ring = record { core = lent core levels; size = rest .size; request = rest .request; ring = ring }
+
+-- the same with the levels of its core
+abbrev pub boardAs : Board → Core → Ring → Board
+boardAs rest core ring = record { core = core; size = rest .size; request = rest .request; ring = ring }
+
+-- the event ahead is done as `step` would do it, and its line is written
+pub record Hastens (rest : Board) (core : Core) (ring : Ring) (n : Ahead) (at number : ℕ) (levels m out : List ℕ) (r : Hastened) (levels′ m′ out′ : List ℕ) : Type 0 where
+  pub event : Event
+  pub stands : n ≡ Found event (r .after)
+  pub stepped : Stepped (boardNow rest core levels ring) m event (replyOf (boardAs rest core ring) (r .change) levels′) m′
+  pub written : Piece out at (line number (record { refusal = 0; register = 0; moved = r .change .moved; fate = r .change .fate }) (r .change .ring .count)) out′ (r .at)
 
 -- what `hurry` leaves: the events as far as a cursor are done, and what stands there is told
 pub record Hurries (s : List ℕ) (c : Cursor) (k : Desk) (r : Hurried) (m′ out′ : List ℕ) : Type 0 where

@@ -1,5 +1,6 @@
 -- Events that the loop over a session does at once, and what of the board they change. For the code.
 --   commonEvent k v   the event that `Common` tells, by its kind and its value
+--   commonOf n        what stands ahead, as `Common` tells it
 --   takes b d         the board b, of d values, stores the next load, and that changes its ring alone
 --   ticks c           a tick is accepted
 --   quick b d k       the event of the kind k can be done at once
@@ -11,9 +12,10 @@ use mathlib.Core.Path.{_≡_}
 use mathlib.Core.Bool.{Bool, true, not, cond, _&&_}
 use mathlib.Core.List.{List, [], _∷_}
 use lib.Dec.{eqb, leb, ltb}
-use Rattle.rules.specs.declared.Signal.the-variants.{Tick}
+use Rattle.rules.specs.declared.Signal.{Signal}
+use Rattle.rules.specs.declared.Signal.the-variants.{Tick, Outside, Trigger, Passed, Failed, Settled}
 use Rattle.rules.specs.declared.Event.{Event}
-use Rattle.rules.specs.declared.Event.the-variants.{Write, Signal as signal}
+use Rattle.rules.specs.declared.Event.the-variants.{PowerUp, Write, Read, Signal as signal}
 use Rattle.rules.specs.declared.Core.{Core}
 use Rattle.rules.specs.declared.Board.{Board}
 use Rattle.rules.specs.Bits.{all}
@@ -23,6 +25,10 @@ use Rattle.rules.specs.Clocks.{closed, tickAccepted}
 use Rattle.rules.specs.Laws.Soundness.{Stands}
 use Rattle.moves.specs.Promises.{lent}
 use Rattle.board.specs.declared.Reply.{Reply}
+use Rattle.run.specs.declared.Cursor.{Cursor}
+use Rattle.run.specs.declared.Ahead.{Ahead}
+use Rattle.run.specs.declared.Ahead.the-variants.{Found, Over}
+use Rattle.listing.specs.declared.shortcuts.Common.{Common}
 use Rattle.listing.specs.declared.shortcuts.Change.{Change}
 
 -- ---- Which events
@@ -30,6 +36,25 @@ use Rattle.listing.specs.declared.shortcuts.Change.{Change}
 -- 1 a write of v to 18h, 2 a tick
 unfoldable pub commonEvent : ℕ → ℕ → Event
 commonEvent kind v = cond (eqb kind 1) (Write 0x18 v) (signal Tick)
+
+-- what stands ahead, if it is one of these, as numbers
+abbrev pub nothing : Common
+nothing = record { kind = 0; value = 0; after = record { place = 0 } }
+
+abbrev pub commonSignal : Signal → Cursor → Common
+commonSignal Tick c = record { kind = 2; value = 0; after = c }
+commonSignal Outside c = nothing
+commonSignal Trigger c = nothing
+commonSignal Passed c = nothing
+commonSignal Failed c = nothing
+commonSignal Settled c = nothing
+
+abbrev pub commonOf : Ahead → Common
+commonOf (Found (Write o v) c) = cond (eqb o 0x18) (record { kind = 1; value = v; after = c }) nothing
+commonOf (Found (signal x) c) = commonSignal x c
+commonOf (Found (PowerUp x) c) = nothing
+commonOf (Found (Read o) c) = nothing
+commonOf (Over x) = nothing
 
 -- No interrupt is selected, so that no edge can come of it; the active buffer is the whole one.
 unfoldable pub takes : Board → ℕ → Bool

@@ -1,10 +1,16 @@
-// Loads and ticks, one after another: a loop of its own, so that what they do not change stays at hand.
-ghost use Prim.Native.Nat.{_≤_};
+// Loads and ticks, one after another: a loop of its own, so that what they do not change stays at hand. The levels, the core and the
+// ring stand in locals, so that an event changes only what it must; the levels of the core are those of the start, and count for nothing.
+ghost use Prim.Native.Nat.{_+_, _≤_};
 ghost use mathlib.Core.Path.{_≡_};
+ghost use mathlib.Core.Bool.{true};
 ghost use lib.ListN.{length};
-ghost use Rattle.listing.specs.Desk.{desk, Fair, Hurries};
+ghost use Rattle.rules.specs.Record.{stateOf};
+ghost use Rattle.record.specs.Promises.{DepthTold};
+ghost use Rattle.listing.specs.Shortcuts.{commonOf, quick, InRun};
+ghost use Rattle.listing.specs.Desk.{boardNow, boardAs, desk, Fair, Hastens, Hurries};
 use crate::parts::whole;
 use crate::parts::with_levels;
+use crate::shortcuts::Change;
 use crate::shortcuts::at_once;
 use crate::shortcuts::common_of;
 use crate::shortcuts::quick;
@@ -25,19 +31,74 @@ pub(crate) struct Hurried {
     pub number: u32,
 }
 
-pub(crate) fn stopped(board: Board, ahead: Ahead, at: usize, number: u32) -> Hurried
-    ensures { λ r. ⌜ r ≡ record { board = board; ahead = ahead; at = at; number = number } ⌝ }
+pub(crate) fn stopped(
+    rest: Board,
+    core: Core,
+    levels: [u16; 20],
+    ring: Ring,
+    ahead: Ahead,
+    at: usize,
+    number: u32,
+) -> Hurried
+    ensures { λ r. ⌜ r ≡ record { board = boardNow rest core levels ring; ahead = ahead; at = at; number = number } ⌝ }
 {
     Hurried {
-        board: board,
+        board: whole(rest, with_levels(core, levels), ring),
         ahead: ahead,
         at: at,
         number: number,
     }
 }
 
-// The levels, the core and the ring stand in locals of their own, so that an event that is done at once changes only what it must; the
-// levels of `core` are those of the start, and count for nothing.
+// Whether what stands ahead can be done at once.
+pub(crate) fn ready(rest: Board, core: Core, ring: Ring, d: u32, n: Ahead) -> bool
+    ensures { λ r. ⌜ r ≡ quick (boardAs rest core ring) d ((commonOf n) .kind) ⌝ }
+{
+    let x = common_of(n);
+    quick(whole(rest, core, ring), d, x.kind)
+}
+
+// What the event changed, the cursor after it, and the place after its line.
+pub(crate) struct Hastened {
+    pub change: Change,
+    pub after: Cursor,
+    pub at: usize,
+}
+
+// The event ahead is done at once, and its line written.
+pub(crate) fn hasten(
+    rest: Board,
+    core: Core,
+    ring: Ring,
+    d: u32,
+    n: Ahead,
+    at: usize,
+    number: u32,
+    levels: &mut [u16; 20],
+    memory: &mut [u32],
+    out: &mut [u8],
+) -> Hastened
+    requires { ⌜ DepthTold rest d × (quick (boardAs rest core ring) d ((commonOf n) .kind) ≡ true) × InRun (stateOf (boardNow rest core (now levels) ring) (now memory)) × (at + 64 ≤ length (now out)) ⌝ }
+    ensures { λ r. ⌜ Hastens rest core ring n at number (now (levels .entry)) (now (memory .entry)) (now (out .entry)) r (now (levels .exit)) (now (memory .exit)) (now (out .exit)) ⌝ }
+{
+    let x = common_of(n);
+    let change = at_once(whole(rest, core, ring), d, x.kind, x.value, levels, memory);
+    let next = put_done(
+        out,
+        at,
+        number,
+        change.moved,
+        change.fate,
+        change.ring.count,
+    );
+    let after = x.after;
+    Hastened {
+        change: change,
+        after: after,
+        at: next,
+    }
+}
+
 pub(crate) fn hurry(
     s: &[u8],
     from: Cursor,
@@ -59,22 +120,20 @@ pub(crate) fn hurry(
     let mut number = first;
     loop {
         let n = next(s, c);
-        let x = common_of(n);
-        let now = whole(b, core, ring);
-        if !quick(now, d, x.kind) {
-            return stopped(whole(b, with_levels(core, levels), ring), n, at, number);
+        if !ready(b, core, ring, d, n) {
+            return stopped(b, core, levels, ring, n, at, number);
         }
-        let change = at_once(now, d, x.kind, x.value, &mut levels, memory);
-        core.outputs.cursor = change.cursor;
-        let burst = change.burst;
+        let h = hasten(b, core, ring, d, n, at, number, &mut levels, memory, out);
+        core.outputs.cursor = h.change.cursor;
+        let burst = h.change.burst;
         core.burst = burst;
-        let loading = change.load;
+        let loading = h.change.load;
         core.load = loading;
-        let left = change.ring;
+        let left = h.change.ring;
         ring = left;
-        at = put_done(out, at, number, change.moved, change.fate, ring.count);
+        at = h.at;
         number += 1;
-        let after = x.after;
+        let after = h.after;
         c = after;
     }
 }

@@ -1,6 +1,6 @@
 // The listing of a session file as bytes in a lent output. Every call takes every input.
 ghost use Rattle.listing.specs.Promises.{Lists};
-use crate::whole::put_listing;
+use crate::whole::put_body;
 use lines::put_text;
 
 mod hurry;
@@ -30,5 +30,6 @@ pub fn list(s: &[u8], memory: &mut [u32], out: &mut [u8]) -> Listed
     if out.len() < room {
         return Listed::Short(room);
     }
-    Listed::Text(put_listing(s, memory, out))
+    let at = put_text(out, 0, b"REHEARSAL 1\n");
+    Listed::Text(put_body(s, memory, out, at))
 }

@@ -1,12 +1,11 @@
 // The commonest events of a session, a load that is stored and a tick that is accepted, as the few parts of the board that they
 // change: the loop over a session then need not hand the whole record to `step` and back.
 ghost use mathlib.Core.Path.{_≡_};
-ghost use mathlib.Core.Logic.{_≢_};
 ghost use mathlib.Core.Bool.{true};
-ghost use Rattle.rules.specs.declared.Event.the-variants.{Write, Signal as signal};
+ghost use Rattle.rules.specs.declared.Event.the-variants.{Write};
 ghost use Rattle.record.specs.Promises.{DepthTold};
 ghost use Rattle.board.specs.Promises.{Stepped};
-ghost use Rattle.listing.specs.Shortcuts.{commonEvent, takes, ticks, quick, boardWith, replyOf, InRun};
+ghost use Rattle.listing.specs.Shortcuts.{commonEvent, nothing, commonSignal, commonOf, takes, ticks, quick, boardWith, replyOf, InRun};
 ghost use Rattle.rules.specs.Record.{stateOf};
 ghost use Rattle.run.specs.declared.Ahead.the-variants.{Found};
 use channels::serve;
@@ -33,7 +32,7 @@ pub(crate) struct Common {
 }
 
 pub(crate) fn other() -> Common
-    ensures { λ r. ⌜ r .kind ≡ 0 ⌝ }
+    ensures { λ r. ⌜ r ≡ nothing ⌝ }
 {
     Common {
         kind: 0,
@@ -43,7 +42,7 @@ pub(crate) fn other() -> Common
 }
 
 pub(crate) fn written(offset: u32, value: u32, after: Cursor) -> Common
-    ensures { λ r. ⌜ (r .kind ≢ 0 → Found (Write offset value) after ≡ Found (commonEvent (r .kind) (r .value)) (r .after)) ⌝ }
+    ensures { λ r. ⌜ r ≡ commonOf (Found (Write offset value) after) ⌝ }
 {
     if offset == 24 {
         return Common {
@@ -56,7 +55,7 @@ pub(crate) fn written(offset: u32, value: u32, after: Cursor) -> Common
 }
 
 pub(crate) fn signalled(x: Signal, after: Cursor) -> Common
-    ensures { λ r. ⌜ (r .kind ≢ 0 → Found (signal x) after ≡ Found (commonEvent (r .kind) (r .value)) (r .after)) ⌝ }
+    ensures { λ r. ⌜ r ≡ commonSignal x after ⌝ }
 {
     match x {
         Signal::Tick => Common {
@@ -64,12 +63,16 @@ pub(crate) fn signalled(x: Signal, after: Cursor) -> Common
             value: 0,
             after: after,
         },
-        _ => other(),
+        Signal::Outside => other(),
+        Signal::Trigger => other(),
+        Signal::Passed => other(),
+        Signal::Failed => other(),
+        Signal::Settled => other(),
     }
 }
 
 pub(crate) fn common_of(n: Ahead) -> Common
-    ensures { λ r. ⌜ (r .kind ≢ 0 → n ≡ Found (commonEvent (r .kind) (r .value)) (r .after)) ⌝ }
+    ensures { λ r. ⌜ r ≡ commonOf n ⌝ }
 {
     match n {
         Ahead::Found(e, after) => match e {

@@ -30,7 +30,7 @@ pub(crate) fn any_at(s: &[u8], at: usize) -> Item
 }
 
 // The record at a place of a session file; place 0 is the start of the file, before its version byte. A tick or a write to 18h, as most
-// records of a session are, is told by its bytes alone, in half the time.
+// records of a session are, is told by its bytes alone, in fewer steps.
 pub fn item_at(s: &[u8], at: usize) -> Item
     ensures { λ r. ⌜ ItemTold (now (s .entry)) at r ⌝ }
 {

@@ -1,6 +1,8 @@
+use mathlib.Core.Path.{_∙_}
 use native.Mathlib.Omega.{arith}
 use borrow.Author.Needs.{needs}
-use Rattle.lines.proofs.Joined.{printed-piece}
+use Rattle.text.specs.Listing.{listing}
+use Rattle.lines.proofs.Joined.{then, piece-length, printed-piece}
 use Rattle.listing.proofs.Answers.{too-short, room-long, long-written, room-file, file-written}
 use Rattle.listing.proofs.list.Statement.{statement}
 use Rattle.listing.proofs.list.Tie as tie
@@ -37,19 +39,34 @@ returns-3 c =
     let a = c .before .before .before .before .before .args in
     too-short (a .s .now) (a .memory .now) (a .out .now) _ (room-file (a .s .now) (a .memory .now) (a .out .now) (c .before .if1 .left)) (c .if3 .taken)
 
-put-listing-requires : tie.Need-put-listing-requires
-put-listing-requires c κs = search needs
+slice-aggregate-put-text-2 : tie.Need-slice-aggregate-put-text-2
+slice-aggregate-put-text-2 c = search needs
+
+put-text-requires-2 : tie.Need-put-text-requires-2
+put-text-requires-2 c κs = tt
+
+put-body-requires : tie.Need-put-body-requires
+put-body-requires c κs =
+    let h = c .before .before .before .before in
+    let z = h .before .before .before in
+    let head = printed-piece (h .put-text2 .ensures) (omega (arith, z .if3 .left)) in
+    (z .before .if1 .left, omega (arith, z .if3 .left, head .place, piece-length head))
 
 same-length-2 : tie.Need-same-length-2
 same-length-2 c = search needs
 
 same-length-3 : tie.Need-same-length-3
-same-length-3 c = search needs
+same-length-3 c = c .before .before .before .before .put-body .kept .1 .1 .0 ∙ c .before .before .before .before .before .before .before .before .before .put-text2 .kept .0
 
 returns-4 : tie.Need-returns-4
+unfolding listing
 returns-4 c =
-    let a = c .before .before .before .before .before .before .before .before .before .before .before .before .args in
-    file-written (a .s .now) (a .memory .now) (a .out .now) _ _ _ (c .before .before .before .before .before .before .before .before .if1 .left) (c .before .before .before .before .before .before .before .if3 .left) (c .before .before .before .before .put-listing .ensures)
+    let b = c .before .before .before .before .put-body .ensures in
+    let h = c .before .before .before .before .before .before .before .before .before in
+    let z = h .before .before .before in
+    let a = z .before .before .before .before .before .args in
+    let head = printed-piece (h .put-text2 .ensures) (omega (arith, z .if3 .left)) in
+    file-written (a .s .now) (a .memory .now) (a .out .now) _ _ _ (z .before .if1 .left) (z .if3 .left) (then head (b .0), b .1)
 
 pub list-spec : {M : Type 1} → statement M
 list-spec =
@@ -63,7 +80,9 @@ list-spec =
     mul-room
     add-room
     returns-3
-    put-listing-requires
+    slice-aggregate-put-text-2
+    put-text-requires-2
+    put-body-requires
     same-length-2
     same-length-3
     returns-4)

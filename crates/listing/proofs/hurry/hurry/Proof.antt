@@ -1,31 +1,15 @@
 -- At each turn the events from the start of the loop on are passed (specs/Desk.antt).
-use Prim.Native.Nat.{ℕ, _-_}
-use mathlib.Core.Path.{_≡_, refl, sym, ap, subst, _∙_}
-use mathlib.Core.Bool.{cond}
-use mathlib.Core.List.{List}
+use Prim.Native.Nat.{_-_}
+use mathlib.Core.Path.{_≡_, refl, sym, subst, _∙_}
 use native.Mathlib.Omega.{arith}
 use borrow.Author.Tests.{not-false}
-use lib.Dec.{leb}
 use lib.ListN.{length}
-use Rattle.rules.specs.declared.Core.{Core}
-use Rattle.rules.specs.declared.Ring.{Ring}
-use Rattle.rules.specs.declared.Board.{Board}
-use Rattle.rules.specs.Record.{depthOf}
-use Rattle.moves.specs.Promises.{lent}
-use Rattle.board.specs.Promises.{Stepped}
 use Rattle.run.proofs.Ways.{way-ends}
-use Rattle.lines.proofs.Joined.{printed-piece}
 use Rattle.listing.specs.declared.hurry.Hurried.{Hurried}
-use Rattle.listing.specs.Shortcuts.{commonEvent, boardWith, replyOf}
-use Rattle.listing.specs.Desk.{desk, Walked, Hurries}
-use Rattle.listing.proofs.AtOnce.{quick-some}
+use Rattle.listing.specs.Desk.{boardNow, desk, Walked, Hurries}
 use Rattle.listing.proofs.Walking.{walked-start, walked-then, walked-on, line-room, number-small}
 use Rattle.listing.proofs.hurry.hurry.Statement.{statement}
 use Rattle.listing.proofs.hurry.hurry.Tie as tie
-
--- the board of its parts
-abbrev boardNow : Board → Core → List ℕ → Ring → Board
-boardNow rest core levels ring = record { core = lent core levels; size = rest .size; request = rest .request; ring = ring }
 
 abbrev Inv-loop : tie.InvT-loop
 Inv-loop s b place first memory₀ out₀ d core₀ levels₀ ring₀ c₀ at₀ number₀ memory out core levels ring c at number =
@@ -46,77 +30,53 @@ loop-holds c =
 next-requires : tie.Need-next-requires Inv-loop μ-loop
 next-requires c κs = tt
 
-common-of-requires : tie.Need-common-of-requires Inv-loop μ-loop
-common-of-requires c κs = tt
-
-whole-requires : tie.Need-whole-requires Inv-loop μ-loop
-whole-requires c κs = tt
-
-quick-requires : tie.Need-quick-requires Inv-loop μ-loop
-quick-requires c κs = tt
-
-with-levels-requires : tie.Need-with-levels-requires Inv-loop μ-loop
-with-levels-requires c κs = tt
-
-whole-requires-2 : tie.Need-whole-requires-2 Inv-loop μ-loop
-whole-requires-2 c κs = tt
+ready-requires : tie.Need-ready-requires Inv-loop μ-loop
+ready-requires c κs = tt
 
 stopped-requires : tie.Need-stopped-requires Inv-loop μ-loop
 stopped-requires c κs = tt
 
 same-length : tie.Need-same-length Inv-loop μ-loop
-same-length c = c .before .before .before .before .before .before .before .before .loop .inv .0
+same-length c = c .before .before .before .before .loop .inv .0
 
 same-length-2 : tie.Need-same-length-2 Inv-loop μ-loop
-same-length-2 c = c .before .before .before .before .before .before .before .before .loop .inv .1
+same-length-2 c = c .before .before .before .before .loop .inv .1
 
 returns : tie.Need-returns Inv-loop μ-loop
 returns c =
-    let z = c .before .before .before .before .before .before .before .before in
-    let a = z .before .before .before .before .before .before .before .before .args in
-    let l = z .loop in
-    let whole : c .before .whole2 .result ≡ boardNow (a .b) (l .core) (l .levels) (l .ring) =
-    c .before .whole2 .ensures ∙ (λ i. record { core = c .before .before .with-levels .ensures i; size = a .b .size; request = a .b .request; ring = l .ring }) in
-    let told : c .stopped .result ≡ record { board = boardNow (a .b) (l .core) (l .levels) (l .ring); ahead = c .before .before .before .before .before .before .before .next .result; at = l .at; number = l .number } =
-    c .stopped .ensures ∙ (λ i. record { board = whole i; ahead = c .before .before .before .before .before .before .before .next .result; at = l .at; number = l .number }) in
-    subst (λ (r : Hurried). Hurries (a .s .now) (a .from) (desk (a .b) (a .memory .now) (a .out .now) (a .place) (a .first)) r (l .memory) (l .out)) (sym told)
-    (record { cursor = l .c; stands = c .before .before .before .before .before .before .before .next .ensures .told; walked = l .inv .2 })
+    let l = c .before .before .before .before in
+    let a = l .before .before .before .before .before .before .before .before .args in
+    subst (λ (r : Hurried). Hurries (a .s .now) (a .from) (desk (a .b) (a .memory .now) (a .out .now) (a .place) (a .first)) r (l .loop .memory) (l .loop .out)) (sym (c .stopped .ensures))
+    (record { cursor = l .loop .c; stands = c .before .before .before .next .ensures .told; walked = l .loop .inv .2 })
 
-at-once-requires : tie.Need-at-once-requires Inv-loop μ-loop
-at-once-requires c κs =
-    let z = c .before .before in
-    let whole = z .before .before .whole .ensures in
-    (record { told = z .before .before .before .before .before .before .before .before .before .depth .ensures .told ∙ ap (λ (b : Board). cond (leb (b .size .fitted) 15) (depthOf (b .size .fitted)) 0) (sym whole) }, sym (z .before .quick .ensures) ∙ not-false _ (z .if1 .left), rw whole (z .before .before .before .before .before .loop .inv .2 .fair .sound))
-
-put-done-requires : tie.Need-put-done-requires Inv-loop μ-loop
-put-done-requires c κs = tt
+hasten-requires : tie.Need-hasten-requires Inv-loop μ-loop
+hasten-requires c κs =
+    let q = c .before .before .before in
+    let l = q .before .before .before in
+    let f = l .loop .inv .2 .fair in
+    (l .before .before .before .before .depth .ensures, sym (q .before .ready .ensures) ∙ not-false _ (q .if1 .left), f .sound, line-room _ _ (boardNow (l .before .before .before .before .before .before .before .before .args .b) (l .loop .core) (l .loop .levels) (l .loop .ring)) _ _ _ _ f)
 
 add-number : tie.Need-add-number Inv-loop μ-loop
 add-number c =
-    let z = c .before .before .before .before .before .before .before .before .before .before .before .before .before .before .before .before .before .before in
-    record { fits = omega (arith, number-small _ _ _ _ _ _ _ (z .loop .inv .2 .fair) (z .before .before .before .before .before .before .before .before .pre .0)) }
+    let l = c .before .before .before .before .before .before .before .before .before .before .before .before .before .before .before in
+    record { fits = omega (arith, number-small _ _ _ _ _ _ _ (l .loop .inv .2 .fair) (l .before .before .before .before .before .before .before .before .pre .0)) }
 
 loop-less : tie.Need-loop-less Inv-loop μ-loop
 loop-less c =
-    let q = c .before .before .before .before .before .before .before .before .before .before .before .before .before .before in
-    let l = q .before .before .before .before .before in
-    way-ends (l .before .before .before .before .before .before .before .before .args .s .now) (l .loop .c) _ _ (sym (q .before .before .before .before .next .ensures .told) ∙ q .before .before .before .common-of .ensures (quick-some _ _ _ (sym (q .before .quick .ensures) ∙ not-false _ (q .if1 .left))))
+    let h = c .before .before .before .before .before .before .before .before .before in
+    let l = h .before .before .before .before .before .before .before in
+    way-ends (l .before .before .before .before .before .before .before .before .args .s .now) (l .loop .c) _ (h .hasten .ensures .event) (sym (h .before .before .before .before .before .before .next .ensures .told) ∙ h .hasten .ensures .stands)
 
 loop-again : tie.Need-loop-again Inv-loop μ-loop
 loop-again c =
-    let o = c .before .before .before .before .before .before .before .before .before .before .before in
-    let q = o .before .before .before in
-    let l = q .before .before .before .before .before .loop in
-    let a = q .before .before .before .before .before .before .before .before .before .before .before .before .before .args in
-    let x = q .before .before .before .common-of in
-    let event = commonEvent (x .result .kind) (x .result .value) in
-    let now = boardNow (a .b) (l .core) (l .levels) (l .ring) in
-    let stood = sym (q .before .before .before .before .next .ensures .told) ∙ x .ensures (quick-some _ _ _ (sym (q .before .quick .ensures) ∙ not-false _ (q .if1 .left))) in
-    let stepped = subst (λ (b : Board). Stepped (boardWith b (l .levels)) (l .memory) event (replyOf b (o .at-once .result) (o .at-once .last .1 .1 .1 .1 .0)) (o .at-once .last .1 .1 .1 .1 .1 .0)) (q .before .before .whole .ensures) (o .at-once .ensures) in
-    let f = l .inv .2 .fair in
-    let put = c .before .before .before .put-done in
-    let line = printed-piece (put .ensures) (line-room _ _ now _ _ _ _ f) in
-    (o .at-once .kept .1 .1 .1 .1 .1 .0 ∙ l .inv .0, put .kept .0 ∙ l .inv .1, walked-then _ _ _ _ _ _ _ (l .inv .2) (walked-on (a .s .now) (l .c) now (l .memory) (l .out) (l .at) (l .number) f _ event stood _ _ _ _ stepped line))
+    let h = c .before .before .before .before .before .before .before .before .before in
+    let l = h .before .before .before .before .before .before .before in
+    let a = l .before .before .before .before .before .before .before .before .args in
+    let f = l .loop .inv .2 .fair in
+    let now = boardNow (a .b) (l .loop .core) (l .loop .levels) (l .loop .ring) in
+    let stood = sym (h .before .before .before .before .before .before .next .ensures .told) ∙ h .hasten .ensures .stands in
+    let on = walked-on (a .s .now) (l .loop .c) now (l .loop .memory) (l .loop .out) (l .loop .at) (l .loop .number) f _ (h .hasten .ensures .event) stood _ _ _ _ (h .hasten .ensures .stepped) (h .hasten .ensures .written) in
+    (h .hasten .kept .1 .1 .1 .1 .1 .1 .1 .1 .0 ∙ l .loop .inv .0, h .hasten .kept .1 .1 .1 .1 .1 .1 .1 .1 .1 .0 ∙ l .loop .inv .1, walked-then _ _ _ _ _ _ _ (l .loop .inv .2) on)
 
 pub hurry-spec : {M : Type 1} → statement M
 hurry-spec =
@@ -127,17 +87,12 @@ hurry-spec =
     depth-requires
     loop-holds
     next-requires
-    common-of-requires
-    whole-requires
-    quick-requires
-    with-levels-requires
-    whole-requires-2
+    ready-requires
     stopped-requires
     same-length
     same-length-2
     returns
-    at-once-requires
-    put-done-requires
+    hasten-requires
     add-number
     loop-less
     loop-again)

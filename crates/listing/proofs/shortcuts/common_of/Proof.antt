@@ -1,7 +1,8 @@
-use mathlib.Core.Path.{ap, _∙_}
+use mathlib.Core.Path.{sym, ap, _∙_}
 use borrow.Author.Needs.{needs}
 use Rattle.rules.specs.declared.Event.{Event}
 use Rattle.run.specs.declared.Ahead.the-variants.{Found}
+use Rattle.listing.specs.Shortcuts.{commonOf}
 use Rattle.listing.proofs.shortcuts.common_of.Statement.{statement}
 use Rattle.listing.proofs.shortcuts.common_of.Tie as tie
 
@@ -39,23 +40,23 @@ other-requires-3 : tie.Need-other-requires-3
 other-requires-3 c κs = tt
 
 returns : tie.Need-returns
-returns c z =
+returns c =
     let n = c .before .before .before .before .before .n .given in
-    n .1 ∙ ap (λ (e : Event). Found e (n .0 .1 .0)) (c .before .before .e .given .1) ∙ c .written .ensures z
+    c .written .ensures ∙ sym (ap commonOf (n .1 ∙ ap (λ (e : Event). Found e (n .0 .1 .0)) (c .before .before .e .given .1)))
 
 returns-2 : tie.Need-returns-2
-returns-2 c z =
+returns-2 c =
     let n = c .before .before .before .before .before .n .given in
-    n .1 ∙ ap (λ (e : Event). Found e (n .0 .1 .0)) (c .before .before .e2 .given .1) ∙ c .signalled .ensures z
+    c .signalled .ensures ∙ sym (ap commonOf (n .1 ∙ ap (λ (e : Event). Found e (n .0 .1 .0)) (c .before .before .e2 .given .1)))
 
 returns-3 : tie.Need-returns-3
-returns-3 c z = absurd (z (c .other .ensures))
+returns-3 c = search needs
 
 returns-4 : tie.Need-returns-4
-returns-4 c z = absurd (z (c .other2 .ensures))
+returns-4 c = search needs
 
 returns-5 : tie.Need-returns-5
-returns-5 c z = absurd (z (c .other3 .ensures))
+returns-5 c = search needs
 
 pub common-of-spec : {M : Type 1} → statement M
 common-of-spec =

@@ -1,22 +1,79 @@
+use mathlib.Core.Path.{sym, ap}
 use borrow.Author.Needs.{needs}
-use Rattle.rules.specs.declared.Event.the-variants.{Signal}
-use Rattle.run.specs.declared.Ahead.the-variants.{Found}
-use Rattle.listing.specs.Shortcuts.{commonEvent}
+use Rattle.rules.specs.declared.Signal.{Signal}
+use Rattle.listing.specs.Shortcuts.{commonSignal}
 use Rattle.listing.proofs.shortcuts.signalled.Statement.{statement}
 use Rattle.listing.proofs.shortcuts.signalled.Tie as tie
 
 enum-told : tie.Need-enum-told
 enum-told c = search needs
 
+enum-told-2 : tie.Need-enum-told-2
+enum-told-2 c = search needs
+
+enum-told-3 : tie.Need-enum-told-3
+enum-told-3 c = search needs
+
+enum-told-4 : tie.Need-enum-told-4
+enum-told-4 c = search needs
+
+enum-told-5 : tie.Need-enum-told-5
+enum-told-5 c = search needs
+
+enum-told-6 : tie.Need-enum-told-6
+enum-told-6 c = search needs
+
 other-requires : tie.Need-other-requires
 other-requires c κs = tt
 
+other-requires-2 : tie.Need-other-requires-2
+other-requires-2 c κs = tt
+
+other-requires-3 : tie.Need-other-requires-3
+other-requires-3 c κs = tt
+
+other-requires-4 : tie.Need-other-requires-4
+other-requires-4 c κs = tt
+
+other-requires-5 : tie.Need-other-requires-5
+other-requires-5 c κs = tt
+
 returns : tie.Need-returns
-unfolding commonEvent
-returns c z = λ i. Found (Signal (c .enum-told .given .1 i)) (c .before .before .args .after)
+returns c = sym (ap (λ (x : Signal). commonSignal x (c .before .before .args .after)) (c .enum-told .given .1))
 
 returns-2 : tie.Need-returns-2
-returns-2 c z = absurd (z (c .other .ensures))
+returns-2 c = search needs
+
+returns-3 : tie.Need-returns-3
+returns-3 c = search needs
+
+returns-4 : tie.Need-returns-4
+returns-4 c = search needs
+
+returns-5 : tie.Need-returns-5
+returns-5 c = search needs
+
+returns-6 : tie.Need-returns-6
+returns-6 c = search needs
 
 pub signalled-spec : {M : Type 1} → statement M
-signalled-spec = tie.close (tie.spec enum-told other-requires returns returns-2)
+signalled-spec =
+    tie.close
+    (tie.spec
+    enum-told
+    enum-told-2
+    other-requires
+    enum-told-3
+    other-requires-2
+    enum-told-4
+    other-requires-3
+    enum-told-5
+    other-requires-4
+    enum-told-6
+    other-requires-5
+    returns
+    returns-2
+    returns-3
+    returns-4
+    returns-5
+    returns-6)
