@@ -97,25 +97,40 @@ pub(crate) fn put_four(out: &mut [u8], at: usize, n: u32) -> usize
     put_two(out, p, n - 100 * high)
 }
 
+// A number of at most two digits.
+pub(crate) fn put_tens(out: &mut [u8], at: usize, n: u32) -> usize
+    requires { ⌜ (at + 2 ≤ length (now out)) × (n < 100) ⌝ }
+    ensures { λ r. ⌜ Piece (now (out .entry)) at (decimalIn 1 n) (now (out .exit)) r ⌝ }
+{
+    if n < 10 {
+        return put_one(out, at, n);
+    }
+    put_two(out, at, n)
+}
+
 // A number of at most four digits.
 pub(crate) fn put_small(out: &mut [u8], at: usize, n: u32) -> usize
     requires { ⌜ (at + 4 ≤ length (now out)) × (n < 10000) ⌝ }
     ensures { λ r. ⌜ Piece (now (out .entry)) at (decimalIn 3 n) (now (out .exit)) r ⌝ }
 {
-    if n < 10 {
-        return put_one(out, at, n);
-    }
     if n < 100 {
-        return put_two(out, at, n);
+        return put_tens(out, at, n);
     }
     let high = n / 100;
-    let low = n - 100 * high;
-    if n < 1000 {
-        let p = put_one(out, at, high);
-        return put_two(out, p, low);
+    let p = put_tens(out, at, high);
+    put_two(out, p, n - 100 * high)
+}
+
+// A number of at most six digits.
+pub(crate) fn put_middle(out: &mut [u8], at: usize, n: u32) -> usize
+    requires { ⌜ (at + 6 ≤ length (now out)) × (n < 1000000) ⌝ }
+    ensures { λ r. ⌜ Piece (now (out .entry)) at (decimalIn 5 n) (now (out .exit)) r ⌝ }
+{
+    if n < 10000 {
+        return put_small(out, at, n);
     }
-    let p = put_two(out, at, high);
-    put_two(out, p, low)
+    let p = put_tens(out, at, n / 10000);
+    put_four(out, p, n)
 }
 
 // A number that mostly has more than one digit, four at a time: ten are two, four and four.
@@ -126,14 +141,8 @@ pub(crate) fn put_long(out: &mut [u8], at: usize, n: u32) -> usize
     if n < 10000 {
         return put_small(out, at, n);
     }
-    let high = n / 10000;
-    if high < 10000 {
-        let p = put_small(out, at, high);
-        return put_four(out, p, n);
-    }
-    let q = put_small(out, at, high / 10000);
-    let r = put_four(out, q, high);
-    put_four(out, r, n)
+    let p = put_middle(out, at, n / 10000);
+    put_four(out, p, n)
 }
 
 // A number that mostly has one digit: short, so that it is compiled into its callers.
