@@ -4,7 +4,7 @@ use mathlib.Core.Path.{_≡_}
 use mathlib.Core.List.{List, [], _∷_, _++_, append-assoc}
 use native.Mathlib.Omega.{arith}
 use Rattle.text.specs.Text.{digit, decimalIn}
-use Rattle.text.proofs.Numbers.{decimal-one, decimal-next, decimal-four}
+use Rattle.text.proofs.Numbers.{decimal-one, decimal-next}
 
 -- the two digits of a number below 100
 abbrev pair : ℕ → List ℕ
@@ -38,9 +38,3 @@ pub decimal-two : (f n : ℕ) → 100 ≤ n → decimalIn (suc (suc f)) n ≡ de
 decimal-two f n h =
     let hundreds : n / 10 / 10 ≡ n / 100 = omega arith in
     rw (decimal-next (suc f) n (omega arith), decimal-next f (n / 10) (omega arith), hundreds, low-pair n, append-assoc)
-
--- the last four
-pub decimal-fours : (f n : ℕ) → 10000 ≤ n → decimalIn (suc (suc (suc (suc f)))) n ≡ decimalIn f (n / 10000) ++ four n
-decimal-fours f n h =
-    let high : n / 10 / 10 / 10 / 10 ≡ n / 10000 = omega arith in
-    rw (decimal-four f n h, high)

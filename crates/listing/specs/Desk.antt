@@ -13,7 +13,6 @@ use Rattle.rules.specs.declared.Board.{Board}
 use Rattle.rules.specs.Record.{State, stateOf}
 use Rattle.rules.specs.Session.{after}
 use Rattle.files.specs.File.{Session}
-use Rattle.moves.specs.Promises.{lent}
 use Rattle.board.specs.Promises.{Stepped}
 use Rattle.text.specs.Text.{line}
 use Rattle.run.specs.declared.Cursor.{Cursor}
@@ -25,7 +24,7 @@ use Rattle.lines.specs.Pieces.{Piece}
 use Rattle.listing.specs.declared.hurry.Hastened.{Hastened}
 use Rattle.listing.specs.declared.hurry.Hurried.{Hurried}
 use Rattle.text.specs.Listing.{body}
-use Rattle.listing.specs.Shortcuts.{InRun, replyOf}
+use Rattle.listing.specs.Shortcuts.{boardAs, boardWith, replyOf, InRun}
 
 -- the output so far and the place in it, the number of the next line, the board and its memory
 pub record Desk : Type 0 where
@@ -61,13 +60,9 @@ pub record Walked (s : List ℕ) (c : Cursor) (k : Desk) (c′ : Cursor) (k′ :
 
 -- ---- What is done at once
 
--- the board of its parts: those that no load and no tick changes stand in `rest`
+-- the board of its parts and these levels
 abbrev pub boardNow : Board → Core → List ℕ → Ring → Board
-boardNow rest core levels ring = record { core = lent core levels; size = rest .size; request = rest .request; ring = ring }
-
--- the same with the levels of its core
-abbrev pub boardAs : Board → Core → Ring → Board
-boardAs rest core ring = record { core = core; size = rest .size; request = rest .request; ring = ring }
+boardNow rest core levels ring = boardWith (boardAs rest core ring) levels
 
 -- the event ahead is done as `step` would do it, and its line is written
 pub record Hastens (rest : Board) (core : Core) (ring : Ring) (n : Ahead) (at number : ℕ) (levels m out : List ℕ) (r : Hastened) (levels′ m′ out′ : List ℕ) : Type 0 where

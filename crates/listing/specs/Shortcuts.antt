@@ -4,6 +4,7 @@
 --   takes b d         the board b, of d values, stores the next load, and that changes its ring alone
 --   ticks c           a tick is accepted
 --   quick b d k       the event of the kind k can be done at once
+--   boardAs b c r     the board b with the core c and the ring r
 --   boardWith b ls    the board b with the levels ls
 --   boardOf b r ls    the board b with what is new in r, and the levels ls
 --   InRun s           the states of a run: not powered, or sound over enough memory
@@ -17,6 +18,7 @@ use Rattle.rules.specs.declared.Signal.the-variants.{Tick, Outside, Trigger, Pa
 use Rattle.rules.specs.declared.Event.{Event}
 use Rattle.rules.specs.declared.Event.the-variants.{PowerUp, Write, Read, Signal as signal}
 use Rattle.rules.specs.declared.Core.{Core}
+use Rattle.rules.specs.declared.Ring.{Ring}
 use Rattle.rules.specs.declared.Board.{Board}
 use Rattle.rules.specs.Bits.{all}
 use Rattle.rules.specs.Record.{State}
@@ -70,6 +72,10 @@ unfoldable pub quick : Board → ℕ → ℕ → Bool
 quick b d kind = cond (eqb kind 1) (b .core .powered && takes b d) (b .core .powered && (eqb kind 2 && ticks (b .core)))
 
 -- ---- What is new
+
+-- the board of its parts: those that no load and no tick changes stand in `rest`
+abbrev pub boardAs : Board → Core → Ring → Board
+boardAs rest core ring = record { core = core; size = rest .size; request = rest .request; ring = ring }
 
 abbrev pub boardWith : Board → List ℕ → Board
 boardWith b ls = record { core = lent (b .core) ls; size = b .size; request = b .request; ring = b .ring }

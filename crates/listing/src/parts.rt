@@ -1,6 +1,7 @@
 // The record of a run, put together of its parts.
 ghost use mathlib.Core.Path.{_≡_};
 ghost use Rattle.moves.specs.Promises.{lent};
+ghost use Rattle.listing.specs.Shortcuts.{boardAs};
 use rules::Board;
 use rules::Burst;
 use rules::Calibration;
@@ -16,7 +17,7 @@ use rules::Ring;
 
 // What neither a load nor a tick changes stands in `rest`.
 pub(crate) fn whole(rest: Board, core: Core, ring: Ring) -> Board
-    ensures { λ r. ⌜ r ≡ record { core = core; size = rest .size; request = rest .request; ring = ring } ⌝ }
+    ensures { λ r. ⌜ r ≡ boardAs rest core ring ⌝ }
 {
     let size = rest.size;
     Board {

@@ -1,16 +1,15 @@
 -- What stands at a place, by whether it is the start of a file that does not begin with 01.
 use Prim.Native.Nat.{ℕ, zero, suc}
 use mathlib.Core.Path.{_≡_, refl, sym, ap}
-use mathlib.Core.Bool.{Bool, true, false, not, cond, _&&_, true≢false, false≢true}
+use mathlib.Core.Bool.{true, false, not, cond, _&&_}
 use mathlib.Core.List.{List, [], _∷_}
 use native.Mathlib.Omega.{arith}
-use borrow.Author.Tests.{eqb-true, ne-eqb}
+use borrow.Author.Tests.{eqb-true, ne-eqb, not-true, not-false}
 use lib.Dec.{eqb}
 use lib.ListN.{length}
-use Rattle.rules.proofs.Choice.{and-both, cond-false}
+use Rattle.rules.proofs.Choice.{and-both, cond-true, cond-false}
 use Rattle.files.specs.declared.Fault.the-variants.{Version}
 use Rattle.files.specs.declared.End.the-variants.{Refused}
-use Rattle.files.specs.declared.Item.{Item}
 use Rattle.files.specs.declared.Item.the-variants.{Over}
 use Rattle.files.specs.File.{byteAt, recordAt, itemAt}
 
@@ -19,20 +18,12 @@ pub no-first : (s : List ℕ) → length s ≡ zero → eqb (byteAt s 0) 1 ≡ f
 no-first [] h = refl
 no-first (x ∷ xs) h = absurd (omega arith)
 
-shut : (b : Bool) (x y : Item) → not b ≡ true → cond b x y ≡ y
-shut true x y h = absurd (false≢true h)
-shut false x y h = refl
-
-unshut : (b : Bool) (x y : Item) → not b ≡ false → cond b x y ≡ x
-unshut true x y h = refl
-unshut false x y h = absurd (true≢false h)
-
 pub not-opened : (s : List ℕ) (at : ℕ) → eqb at 0 && not (eqb (byteAt s 0) 1) ≡ true → itemAt s at ≡ Over (Refused Version 0)
 unfolding itemAt
-not-opened s zero h = shut (eqb (byteAt s 0) 1) _ _ h
+not-opened s zero h = cond-false _ _ _ (not-true (eqb (byteAt s 0) 1) h)
 not-opened s (suc at) h = absurd (omega (arith, eqb-true (suc at) 0 ((and-both (eqb (suc at) 0) _ h) .0)))
 
 pub opened : (s : List ℕ) (at : ℕ) → eqb at 0 && not (eqb (byteAt s 0) 1) ≡ false → itemAt s at ≡ recordAt s (cond (eqb at 0) 1 at)
 unfolding itemAt
-opened s zero h = unshut (eqb (byteAt s 0) 1) _ _ h
+opened s zero h = cond-true _ _ _ (not-false (eqb (byteAt s 0) 1) h)
 opened s (suc at) h = ap (recordAt s) (sym (cond-false _ _ _ (ne-eqb (suc at) 0 (λ e. absurd (omega (arith, e))))))

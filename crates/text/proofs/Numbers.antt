@@ -46,13 +46,15 @@ decimal-next f n h = rw (le-ltb n 10 h)
 -- the last four at once
 pub decimal-four : (f n : ℕ) → 10000 ≤ n
     → decimalIn (suc (suc (suc (suc f)))) n
-    ≡ decimalIn f (n / 10 / 10 / 10 / 10) ++ digit (n / 10 / 10 / 10 % 10) ∷ digit (n / 10 / 10 % 10) ∷ digit (n / 10 % 10) ∷ digit (n % 10) ∷ []
+    ≡ decimalIn f (n / 10000) ++ digit (n / 10 / 10 / 10 % 10) ∷ digit (n / 10 / 10 % 10) ∷ digit (n / 10 % 10) ∷ digit (n % 10) ∷ []
 decimal-four f n h =
+    let high : n / 10 / 10 / 10 / 10 ≡ n / 10000 = omega arith in
     rw (
       decimal-next (suc (suc (suc f))) n (omega arith),
       decimal-next (suc (suc f)) (n / 10) (omega arith),
       decimal-next (suc f) (n / 10 / 10) (omega arith),
       decimal-next f (n / 10 / 10 / 10) (omega arith),
+      high,
     )
     (simp append-assoc)
 

@@ -1,4 +1,4 @@
--- Document 01's own listing, computed; and which files are too long.
+-- Document 01's own listing and that of a cut file, computed; and which files are too long.
 use mathlib.Core.Path.{refl}
 use borrow.Author.Tests.{lt-ltb, le-ltb}
 use Rattle.rules.specs.Session.{outcomes, after}
@@ -7,7 +7,7 @@ use Rattle.rules.proofs.Open.{rules-open}
 use Rattle.files.specs.File.{faultNumber, lengthOf, signalOf, eventOf, eventAt, wholeRecord, recordAt, itemAt, from, session}
 use Rattle.text.specs.Text.{decimalIn, hex, line, levelsIn, levelsLine, fileLine, tail}
 use Rattle.text.specs.Listing.{lines, ending, listing, text}
-use Rattle.text.specs.Laws.{Scope-listed, Too-long, Not-too-long}
+use Rattle.text.specs.Laws.{Scope-listed, Cut-listed, Too-long, Not-too-long}
 
 pub scope-listed : Scope-listed
 unfolding
@@ -16,6 +16,14 @@ unfolding
     decimalIn hex line levelsIn levelsLine fileLine tail
     lines ending listing text
 scope-listed = refl
+
+pub cut-listed : Cut-listed
+unfolding
+    rules-open outcomes after
+    faultNumber lengthOf signalOf eventOf eventAt wholeRecord recordAt itemAt from session
+    decimalIn hex line levelsIn levelsLine fileLine tail
+    lines ending listing text
+cut-listed = refl
 
 pub too-long : Too-long
 unfolding text

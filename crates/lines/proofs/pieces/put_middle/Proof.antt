@@ -1,8 +1,7 @@
 -- `put_middle` meets its contract: the digits before the last four, and these.
 use native.Mathlib.Omega.{arith}
 use borrow.Author.Needs.{needs}
-use Rattle.text.proofs.Numbers.{decimal-long, decimal-room}
-use Rattle.lines.proofs.Digits.{decimal-fours}
+use Rattle.text.proofs.Numbers.{decimal-four, decimal-long, decimal-room}
 use Rattle.lines.proofs.Joined.{then, piece-length, room}
 use Rattle.lines.proofs.pieces.put_middle.Statement.{statement}
 use Rattle.lines.proofs.pieces.put_middle.Tie as tie
@@ -28,7 +27,7 @@ returns-2 : tie.Need-returns-2
 returns-2 c =
     let low = c .before .before in
     let high = low .before .before .before .before in
-    rw (decimal-fours 1 _ (high .before .before .if1 .left)) (then (high .put-tens .ensures) (low .put-four .ensures))
+    rw (decimal-four 1 _ (high .before .before .if1 .left)) (then (high .put-tens .ensures) (low .put-four .ensures))
 
 same-length-2 : tie.Need-same-length-2
 same-length-2 c = piece-length (returns-2 c)

@@ -7,8 +7,7 @@ use Rattle.record.specs.Promises.{DepthTold}
 use Rattle.board.specs.Promises.{Stepped}
 use Rattle.run.specs.declared.Ahead.the-variants.{Found}
 use Rattle.lines.proofs.Joined.{printed-piece}
-use Rattle.listing.specs.Shortcuts.{commonEvent, commonOf, quick, boardWith, replyOf}
-use Rattle.listing.specs.Desk.{boardAs}
+use Rattle.listing.specs.Shortcuts.{commonEvent, commonOf, quick, boardAs, boardWith, replyOf}
 use Rattle.listing.proofs.AtOnce.{quick-some, common-stands}
 use Rattle.listing.proofs.hurry.hasten.Statement.{statement}
 use Rattle.listing.proofs.hurry.hasten.Tie as tie
