@@ -1,26 +1,28 @@
-//! Replays four sessions many times in one process, through the proved code and through the second model, written in Rust, and
-//! prints how many events a second each takes and the ratio of their times.
+//! Lists or writes four sessions many times in one process, through the proved code and through the second model, written in Rust,
+//! and prints how many events a second each takes and the ratio of their times.
 
 mod sessions;
+mod writing;
 
 use std::hint::black_box;
 use std::process::exit;
 use std::time::{Duration, Instant};
 
 const HELP: &str = "\
-bench/run - the proved listing of whole sessions against the same in Rust
+bench/run - the proved listing, or writing, of whole sessions against the same in Rust
 
-usage: bench/run [--rounds N] [--only NAME] [--ours] [--help]
+usage: bench/run [--rounds N] [--only NAME] [--writing] [--ours] [--help]
 
   --rounds N     how often each session is replayed on each side, a number from 1
                  (default 2000); in turns, and the best is taken
   --only NAME    only this session: streaming, circular, simultaneous or random
+  --writing      the sessions are written from their events, and not listed
   --ours         only the proved side and no table, for a profiler
   --help         this text
 
 A ratio is the time of the proved code over that of Rust's: 1.0 is as fast, less is
-faster. The two listings of each session are compared first.
-Exit status: 0 measured, 1 the listings differ, 2 wrong usage.
+faster. What the two sides make of each session is compared too.
+Exit status: 0 measured, 1 the two sides differ, 2 wrong usage.
 ";
 
 /// The sample memory of `rehearse`.
@@ -29,6 +31,7 @@ const MEMORY: usize = 16_384;
 struct Options {
     rounds: u64,
     only: Option<String>,
+    writing: bool,
     ours: bool,
 }
 
@@ -50,6 +53,10 @@ fn main() {
     }
     if options.ours {
         for session in &chosen {
+            if options.writing {
+                writing::ours(session, options.rounds);
+                continue;
+            }
             let mut ours = Ours::new(&session.file);
             for _ in 0..options.rounds {
                 ours.list(&session.file);
@@ -59,7 +66,11 @@ fn main() {
     }
     println!("session         events   Rust, events/s   proved, events/s   ratio");
     for session in &chosen {
-        measure(session.name, &session.file, options.rounds);
+        if options.writing {
+            writing::measure(session, options.rounds);
+        } else {
+            measure(session.name, &session.file, options.rounds);
+        }
     }
 }
 
@@ -67,6 +78,7 @@ fn options() -> Result<Options, String> {
     let mut options = Options {
         rounds: 2_000,
         only: None,
+        writing: false,
         ours: false,
     };
     let mut given = std::env::args().skip(1);
@@ -81,6 +93,7 @@ fn options() -> Result<Options, String> {
                 };
             }
             "--only" => options.only = Some(word()?),
+            "--writing" => options.writing = true,
             "--ours" => options.ours = true,
             "--help" | "-h" => {
                 print!("{HELP}");
@@ -136,11 +149,16 @@ fn measure(name: &str, file: &[u8], rounds: u64) {
         best_ours = best_ours.min(start.elapsed());
         black_box(&ours.output);
     }
+    print_row(name, events, best_theirs, best_ours);
+}
+
+/// A row of the table: the best times of both sides.
+fn print_row(name: &str, events: usize, theirs: Duration, ours: Duration) {
     let rate = |time: Duration| events as f64 / time.as_secs_f64();
     println!(
         "{name:<14} {events:>7} {:>16.0} {:>18.0} {:>7.2}",
-        rate(best_theirs),
-        rate(best_ours),
-        best_ours.as_secs_f64() / best_theirs.as_secs_f64()
+        rate(theirs),
+        rate(ours),
+        ours.as_secs_f64() / theirs.as_secs_f64()
     );
 }

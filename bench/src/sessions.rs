@@ -1,4 +1,4 @@
-//! The four sessions that are replayed, each a session file of nearly 65,536 bytes.
+//! The four sessions that are replayed, each a session file of nearly 65,536 bytes, and its events as rows.
 
 /// 01: "at most 65,536 bytes".
 const LONGEST: usize = 65_536;
@@ -20,6 +20,8 @@ const EOF: u32 = 0x1_0000;
 pub struct Sessions {
     pub name: &'static str,
     pub file: Vec<u8>,
+    /// Six numbers an event.
+    pub rows: Vec<u32>,
 }
 
 pub fn all() -> Vec<Sessions> {
@@ -35,18 +37,23 @@ fn named(name: &'static str, session: Session) -> Sessions {
     Sessions {
         name,
         file: session.file,
+        rows: session.rows,
     }
 }
 
 /// A session file as it grows.
 struct Session {
     file: Vec<u8>,
+    rows: Vec<u32>,
 }
 
 impl Session {
     /// A board with a buffer of 2,048 values, twenty channels and offset binary, whose clock runs.
     fn new() -> Session {
-        let mut session = Session { file: vec![1] };
+        let mut session = Session {
+            file: vec![1],
+            rows: Vec::new(),
+        };
         session.record(&[1, 8, 0, 0, 2, 0x00, 0x10]);
         session.write(BUFFER, RUNNING);
         session
@@ -55,6 +62,7 @@ impl Session {
     fn record(&mut self, bytes: &[u8]) {
         self.file.extend((bytes.len() as u16).to_be_bytes());
         self.file.extend(bytes);
+        self.rows.extend(row(bytes));
     }
 
     fn write(&mut self, offset: u8, value: u32) {
@@ -73,6 +81,21 @@ impl Session {
     /// Whether so many bytes more still fit.
     fn takes(&self, bytes: usize) -> bool {
         self.file.len() + bytes <= LONGEST
+    }
+}
+
+/// A record without its length, as six numbers.
+fn row(record: &[u8]) -> [u32; 6] {
+    let wide = |byte: u8| byte as u32;
+    match *record {
+        [1, d, range, filter, kit, high, low] => {
+            let firmware = u16::from_be_bytes([high, low]) as u32;
+            [1, wide(d), wide(range), wide(filter), wide(kit), firmware]
+        }
+        [2, offset, a, b, c, d] => [2, wide(offset), u32::from_be_bytes([a, b, c, d]), 0, 0, 0],
+        [3, offset] => [3, wide(offset), 0, 0, 0, 0],
+        [kind] => [wide(kind), 0, 0, 0, 0, 0],
+        _ => unreachable!("every record is one of these"),
     }
 }
 

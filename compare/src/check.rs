@@ -2,8 +2,7 @@
 
 use crate::fields::*;
 use crate::{model, ours};
-use std::panic::{catch_unwind, AssertUnwindSafe};
-use std::sync::atomic::{AtomicBool, Ordering};
+use compare::panics::caught;
 
 /// What stands around everything that is lent to the other side.
 const GUARD: u32 = 0xC0DE_FACE;
@@ -18,26 +17,6 @@ const WHOLE: usize = 4096;
 /// this near to the touched places after every event.
 const EVERY: u32 = 16;
 const NEAR: usize = 24;
-
-/// True while a panic is caught and counted as an outcome (see `quiet_panics`).
-static CAUGHT: AtomicBool = AtomicBool::new(false);
-
-/// Panics inside `caught` are outcomes, and not reported as they happen.
-pub fn quiet_panics() {
-    let loud = std::panic::take_hook();
-    std::panic::set_hook(Box::new(move |info| {
-        if !CAUGHT.load(Ordering::Relaxed) {
-            loud(info);
-        }
-    }));
-}
-
-fn caught(call: impl FnOnce() -> u32) -> u32 {
-    CAUGHT.store(true, Ordering::Relaxed);
-    let status = catch_unwind(AssertUnwindSafe(call)).unwrap_or(PANICKED);
-    CAUGHT.store(false, Ordering::Relaxed);
-    status
-}
 
 /// What one side said to one event.
 #[derive(Clone, Copy, PartialEq, Eq, Debug)]
@@ -136,7 +115,8 @@ impl Pair {
         let entries = GUARDS..self.lent_memory.len() - GUARDS;
         let lent_memory = &mut self.lent_memory[entries];
         self.ours.status =
-            caught(|| ours::call(&mut lent.record, lent_memory, &lent.event, &mut lent.answer));
+            caught(|| ours::call(&mut lent.record, lent_memory, &lent.event, &mut lent.answer))
+                .unwrap_or(PANICKED);
         self.ours.answer = self.lent.answer;
         self.model_rate = model::rate(&self.record);
         self.ours_rate = ours::rate(&self.lent.record);
@@ -206,7 +186,7 @@ impl Pair {
 /// One event on the model alone.
 pub fn model_step(record: &mut Record, memory: &mut [u32], event: &Event) -> Outcome {
     let mut answer = [UNWRITTEN; 4];
-    let status = caught(|| model::call(record, memory, event, &mut answer));
+    let status = caught(|| model::call(record, memory, event, &mut answer)).unwrap_or(PANICKED);
     Outcome { status, answer }
 }
 

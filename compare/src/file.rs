@@ -15,7 +15,7 @@ pub const OPENING: u8 = 0x01;
 /// firmware in two bytes) 7; 2 write (offset, value in four) 6; 3 read (offset)
 /// 2; 4 tick, 5 outside clock, 6 trigger, 7 calibration passed, 8 failed, 9
 /// settled, 1 each."
-fn widths(kind: u32) -> Option<&'static [usize]> {
+pub fn widths(kind: u32) -> Option<&'static [usize]> {
     match kind {
         POWER_UP => Some(&[1, 1, 1, 1, 2]),
         WRITE => Some(&[1, 4]),

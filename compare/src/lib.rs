@@ -1,4 +1,4 @@
-//! What the three programs share: records, events and answers as numbers, the
+//! What the four programs share: records, events and answers as numbers, the
 //! second model behind them, random sessions, and session files. Nothing here
 //! needs the archives.
 
@@ -10,6 +10,8 @@ pub mod files;
 pub mod generate;
 pub mod hex;
 pub mod model;
+pub mod panics;
 pub mod process;
 pub mod rng;
+pub mod shorten;
 pub mod words;

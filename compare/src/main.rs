@@ -11,7 +11,7 @@ mod shrink;
 use check::{Case, Difference, Key, Outcome, Pair};
 use compare::generate::Session;
 use compare::process::{End, Progress};
-use compare::{fields, model, process, words};
+use compare::{fields, model, panics, process, words};
 use coverage::{Coverage, Seen};
 use std::process::exit;
 
@@ -73,7 +73,7 @@ fn main() {
             exit(2);
         }
     };
-    check::quiet_panics();
+    panics::quiet();
     let progress = Progress::new();
     if !options.child {
         exit(run(&options, &progress));

@@ -34,8 +34,8 @@ impl Progress {
         Progress(page as *mut u64)
     }
 
-    /// `what`: 0 the session, 1 the event in it, 2 the events so far,
-    /// 3 the differences so far.
+    /// `what`: 0 the session or call, 1 the event or part in it, 2 the events
+    /// or calls so far, 3 the differences so far.
     pub fn set(&self, what: usize, number: u64) {
         unsafe { self.0.add(what).write_volatile(number) }
     }

@@ -1,8 +1,10 @@
-/* Two samples to two channels, the second with the end-of-frame mark, and a write that the board refuses; then the rate. */
+/* Two samples to two channels, the second with the end-of-frame mark, and a write that the board refuses; then the rate, and the
+ * same events as a session file. */
 #include "nergutsai.h"
 
 #include <inttypes.h>
 #include <stdio.h>
+#include <string.h>
 
 static const struct {
     const char *what;
@@ -18,13 +20,27 @@ static const struct {
     {"read the buffer register", {NERGUTSAI_READ, 0x0C}},
     {"write a register that is not there", {NERGUTSAI_WRITE, 0x104, 1}},
 };
+enum { EVENTS = sizeof session / sizeof *session };
+
+static const char *words(uint32_t refusal)
+{
+    switch (refusal) {
+    case NERGUTSAI_NOT_WHOLE_EVENTS: return "the rows are not whole events: hand in all six numbers of every event";
+    case NERGUTSAI_UNKNOWN_KIND: return "an event is of no known kind: kinds are 1 to 9";
+    case NERGUTSAI_FIELD_TOO_LARGE:
+        return "a field is too large for its bytes, or not 0 where the kind has none: correct the first such event";
+    case NERGUTSAI_PLACE_PAST_END: return "the place is past the output's end: name one inside the output";
+    case NERGUTSAI_NO_ROOM: return "the session does not fit from the place on: lend a longer output";
+    default: return "written";
+    }
+}
 
 int main(void)
 {
     uint32_t record[NERGUTSAI_RECORD] = {0};
     uint32_t memory[8] = {0};
 
-    for (size_t i = 0; i < sizeof session / sizeof *session; i++) {
+    for (size_t i = 0; i < EVENTS; i++) {
         uint32_t answer[NERGUTSAI_ANSWER];
         uint32_t status = nergutsai_event(
             record, NERGUTSAI_RECORD, memory, 8, session[i].event, NERGUTSAI_EVENT, answer, NERGUTSAI_ANSWER);
@@ -47,10 +63,22 @@ int main(void)
     for (int channel = 0; channel < 6; channel++)
         printf("channel %d: %04" PRIX32 "\n", channel, record[NERGUTSAI_LEVELS + channel]);
 
-    /* A session file: a power-up, and a record that is cut. */
-    static const uint8_t file[] = {0x01, 0x00, 0x07, 0x01, 0x00, 0x01, 0x00, 0x00, 0x00, 0x10, 0x00};
+    /* An offset has one byte in a session file: with the last event nothing is written, and without it the rest is. */
+    uint32_t rows[EVENTS * NERGUTSAI_EVENT];
+    for (size_t i = 0; i < EVENTS; i++)
+        memcpy(rows + i * NERGUTSAI_EVENT, session[i].event, sizeof session[i].event);
+    uint8_t file[NERGUTSAI_SESSION_ROOM(EVENTS)];
+    size_t end = 0;
+    uint32_t refusal = nergutsai_write(rows, EVENTS * NERGUTSAI_EVENT, file, sizeof file, 0, &end);
+    printf("%-36s refusal %" PRIu32 "  %s\n", "all nine as a session file", refusal, words(refusal));
+    refusal = nergutsai_write(rows, (EVENTS - 1) * NERGUTSAI_EVENT, file, sizeof file, 0, &end);
+    printf("%-36s refusal %" PRIu32 "  %zu bytes\n", "the first eight", refusal, end);
+    if (refusal != NERGUTSAI_WRITTEN)
+        return 1;
+
+    /* The listing of that file, and of the same without its last byte. */
     uint8_t text[NERGUTSAI_ROOM(sizeof file)];
-    size_t length = nergutsai_list(file, sizeof file, memory, 8, text, sizeof text);
-    fwrite(text, 1, length, stdout);
+    fwrite(text, 1, nergutsai_list(file, end, memory, 8, text, sizeof text), stdout);
+    fwrite(text, 1, nergutsai_list(file, end - 1, memory, 8, text, sizeof text), stdout);
     return 0;
 }

@@ -1,7 +1,7 @@
 /* The proved board model for hosts in C: one event on a board record, its sample memory and an event, all as numbers;
- * the rate question of a board record; and the listing of a whole session file.
- * Link with libbridge.a (`rt staticlib bridge`) for the first two and libferry.a (`rt staticlib ferry`) for the last; both are for
- * Linux on x86-64. */
+ * the rate question of a board record; the listing of a whole session file; and events written as a session file.
+ * Link with libbridge.a (`rt staticlib bridge`) for the first two, libferry.a (`rt staticlib ferry`) for the listing and libquay.a
+ * (`rt staticlib quay`) for the last; all three are for Linux on x86-64. */
 #ifndef NERGUTSAI_H
 #define NERGUTSAI_H
 
@@ -31,7 +31,8 @@ enum {
     NERGUTSAI_LEVELS /* and the 19 after it */
 };
 
-/* The first number of an event; the numbers that no field is named for are not looked at. */
+/* The first number of an event. The numbers that no field is named for are not looked at by nergutsai_event; nergutsai_write asks
+ * that they are 0. */
 enum {
     NERGUTSAI_POWER_UP = 1, /* fitted code, range, filter, kit, firmware */
     NERGUTSAI_WRITE = 2,    /* offset, value */
@@ -85,6 +86,36 @@ size_t nergutsai_list(
     const uint8_t *file, size_t file_length,
     uint32_t *memory, size_t memory_length,
     uint8_t *output, size_t output_length);
+
+/* The room that a session file of n events asks for at most. */
+#define NERGUTSAI_SESSION_ROOM(n) (1 + 9 * (size_t)(n))
+
+/* What nergutsai_write returns: that the session was written, or why not. */
+enum {
+    NERGUTSAI_WRITTEN = 0,
+    NERGUTSAI_UNKNOWN_KIND = 13,    /* an event begins with a number that is no kind: kinds are 1 to 9 */
+    NERGUTSAI_PLACE_PAST_END = 20,  /* the place is past the output's end: name one inside the output */
+    NERGUTSAI_NO_ROOM = 21,         /* the session does not fit from the place on: lend as much as NERGUTSAI_SESSION_ROOM says */
+    NERGUTSAI_FIELD_TOO_LARGE = 30, /* a field of an event is too large for its bytes, or a number is not 0 though the kind has no
+                                     * field there: settings and offsets go up to FFh, the firmware number up to FFFFh, values up
+                                     * to FFFFFFFFh; set the rest to 0 */
+    NERGUTSAI_NOT_WHOLE_EVENTS = 32 /* the rows are not a multiple of six numbers: hand in all six of every event */
+};
+
+/* A session file, version 1, of these events: `rows` holds NERGUTSAI_EVENT numbers for each, one event after the other, and no
+ * events are a session too. Returns
+ *   NERGUTSAI_WRITTEN  the session stands in the output from `place` on, its byte 01 at `place` itself, and *end is the place after
+ *      its last byte, counted from the output's start as `place` is. The bytes before and after it are as they were.
+ *   another of the numbers above  it was refused: no byte of the output changed, and *end is 0.
+ * Where several things are wrong, rows that are not whole events are told first; then the first bad event decides, its kind before
+ * its fields; then the place; then the room. Any rows and any place may be handed in. A field is held to its bytes alone: what the
+ * board would refuse is written, for its listing to tell. A session may have any length; nergutsai_list takes up to 65,536 bytes.
+ * The rows are only read. The three pointers must be aligned and not NULL, `rows` and `output` for as many numbers or bytes as
+ * their lengths say, and no two may overlap. */
+uint32_t nergutsai_write(
+    const uint32_t *rows, size_t rows_length,
+    uint8_t *output, size_t output_length,
+    size_t place, size_t *end);
 
 #ifdef __cplusplus
 }

@@ -1,9 +1,10 @@
 //! A second, independent model of the output board, written from document 01
 //! ("Build outline: the output board and its exact rules") and, where 01 is
-//! silent, from the board's manual. It is written to be read beside 01: each
-//! rule stands under a comment that quotes 01's sentence. DECISIONS.md lists
+//! silent, from the board's manual; of document 02 ("Further changes
+//! requested") it has request 2026-01. It is written to be read beside them:
+//! each rule stands under a comment that quotes its sentence. DECISIONS.md lists
 //! the places where a sentence had to be interpreted. `#[inline]` marks what
-//! every event of a listing goes through.
+//! every event of a listing or of a written session goes through.
 
 #![forbid(unsafe_code)]
 
@@ -18,9 +19,13 @@ mod rates;
 mod record;
 mod refuse;
 mod registers;
+mod rows;
 mod session;
+mod writer;
 
 pub use event::{step, Answer, Event};
 pub use listing::{list, listing};
 pub use rates::rates;
 pub use record::Record;
+pub use rows::rows_of;
+pub use writer::{write_session, Written};

@@ -1,5 +1,5 @@
-//! The refusal numbers of events, each "given exactly when" the table says,
-//! and their order.
+//! The refusal numbers, those of events each "given exactly when" the table
+//! says, and the order of these. From 20 on they are those of request 2026-01.
 
 use crate::event::Event;
 use crate::record::{depth_of, Record};
@@ -30,8 +30,16 @@ pub(crate) const NO_SESSION: u32 = 10;
 pub(crate) const CUT: u32 = 11;
 /// "12 | record length wrong for its kind, or 0"
 pub(crate) const LENGTH: u32 = 12;
-/// "13 | unknown record kind"
+/// "13 | unknown record kind"; the writer's "13 an unknown kind"
 pub(crate) const KIND: u32 = 13;
+/// "20 a place past the output's end"
+pub(crate) const PLACE: u32 = 20;
+/// "21 when the whole session doesn't fit"
+pub(crate) const ROOM: u32 = 21;
+/// "30 a field too large for its bytes or not 0 where the kind has none"
+pub(crate) const FIELD: u32 = 30;
+/// "32 a slice not of whole events"
+pub(crate) const ROWS: u32 = 32;
 
 /// The refusal of an event, or DONE. `length` is the memory's length.
 #[inline]

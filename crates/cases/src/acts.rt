@@ -1,4 +1,4 @@
-// What each act does.
+// What each act does. An act is told by its first letter.
 //   Unpowered.           a board as before its first power-up
 //   Lent(n)              it is lent n entries of its memory
 //   Set(i, v)            number i of its row is v
@@ -9,6 +9,11 @@
 //   Memory(i)            prints entry i of the memory
 //   Figures.             prints the answer of the rate question
 //   Run(byte, ..)        prints how this session file ends
+//   Put(kind, ..)        a row of an event joins the slice for the writer
+//   Cut(n)               the slice's last n numbers are missing
+//   Write(n, place)      writes the slice into an output of n bytes from a place on; prints the refusal, and where the writer stopped
+//   Bytes.               prints the 40 bytes in which the output is the first n
+//   Tell(place)          prints the row of the event at a place of the output, and the place after it
 use crate::board::event;
 use crate::board::set;
 use crate::desk::Desk;
@@ -16,6 +21,10 @@ use crate::desk::cleared;
 use crate::endings;
 use crate::figures;
 use crate::print;
+use crate::sheet;
+use crate::sheet::cut;
+use crate::sheet::put;
+use crate::sheet::written;
 
 pub(crate) fn done(mut desk: Desk) -> Desk {
     let act = desk.act;
@@ -27,6 +36,9 @@ pub(crate) fn done(mut desk: Desk) -> Desk {
         }
         b'S' => set(desk),
         b'E' => event(desk),
+        b'P' => put(desk),
+        b'C' => cut(desk),
+        b'W' => written(desk),
         _ => {
             told(desk);
             desk
@@ -51,6 +63,14 @@ fn told(desk: Desk) {
         b'F' => {
             let row = desk.row;
             figures::asked(row);
+        }
+        b'B' => {
+            let output = desk.output;
+            print::bytes(&output);
+        }
+        b'T' => {
+            let output = desk.output;
+            sheet::told(output, desk.numbers[0]);
         }
         _ => {
             let bytes = desk.bytes;

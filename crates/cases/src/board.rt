@@ -11,8 +11,8 @@ pub(crate) fn set(mut desk: Desk) -> Desk {
     desk
 }
 
-// n, or the length of the memory where n is more.
-fn within(n: usize, memory: &[u32]) -> usize
+// n, or the length of the entries where n is more.
+pub(crate) fn within(n: usize, memory: &[u32]) -> usize
     ensures { λ r. ⌜ Counts r (now (memory .entry)) ⌝ }
 {
     if n < memory.len() { n } else { memory.len() }

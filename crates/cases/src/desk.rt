@@ -17,6 +17,10 @@ pub(crate) struct Desk {
     pub(crate) count: u8,
     pub(crate) numbers: [u32; 6],
     pub(crate) bytes: [u8; 16],
+    // Rows for the writer, how many numbers of them there are, and its output.
+    pub(crate) slice: [u32; 24],
+    pub(crate) held: u32,
+    pub(crate) output: [u8; 40],
 }
 
 // An unpowered board. It is lent 8 entries of memory, the least depth, and they have values that no load stores.
@@ -33,5 +37,8 @@ pub(crate) fn cleared(named: bool) -> Desk {
         count: 0,
         numbers: [0; 6],
         bytes: [0; 16],
+        slice: [0; 24],
+        held: 0,
+        output: [238; 40],
     }
 }

@@ -10,6 +10,7 @@ mod endings;
 mod figures;
 mod line;
 mod print;
+mod sheet;
 
 fn work(text: &[u8]) {
     let mut desk = cleared(false);

@@ -8,7 +8,7 @@ use native.Mathlib.Omega.{arith}
 use borrow.Author.Tests.{eqb-true, leb-true, le-leb, ne-eqb}
 use lib.Dec.{eqb, leb}
 use lib.ListN.{length}
-use Rattle.rules.proofs.Choice.{cases}
+use Rattle.rules.proofs.Choice.{cases, either}
 use Rattle.files.specs.File.{byteAt, lengthOf}
 use Rattle.files.specs.Laws.{Known, powerUp, write, read, signal}
 
@@ -37,6 +37,13 @@ length-known k =
     cases P (eqb k 2) (λ t _. subst (λ (x : ℕ). Known x 6) (sym (eqb-true k 2 t)) write) (λ _.
     cases P (eqb k 3) (λ t _. subst (λ (x : ℕ). Known x 2) (sym (eqb-true k 3 t)) read) (λ _.
     cases P (leb 4 k) (λ t. cases P (leb k 9) (λ u _. signal k (leb-true 4 k t) (leb-true k 9 u)) (λ _ h. absurd (h refl))) (λ _ h. absurd (h refl)))))
+
+pub length-small : (k : ℕ) → lengthOf k ≤ 7
+unfolding lengthOf
+length-small k =
+    let P : ℕ → Type 0 = λ n. n ≤ 7 in
+    either P (eqb k 1) (omega arith) (either P (eqb k 2) (omega arith) (either P (eqb k 3) (omega arith)
+    (either P (leb 4 k) (either P (leb k 9) (omega arith) (omega arith)) (omega arith))))
 
 -- a kind of which no record is known
 pub unknown-zero : (k : ℕ) → ((n : ℕ) → ¬ Known k n) → lengthOf k ≡ 0

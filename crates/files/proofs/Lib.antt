@@ -7,3 +7,8 @@ pub mod Walk
 pub mod EveryKind
 pub mod Written
 pub mod Rewritten
+pub mod Joined
+pub mod RowsGiven
+pub mod WritesGiven
+pub mod WriteRead
+pub mod WriteExamples

@@ -1,5 +1,5 @@
 -- What is written of a good file's events is that file (specs/Laws, File-written).
-use Prim.Native.Nat.{ℕ, zero, suc, _+_, _*_, _/_, _%_, _≤_, _<_}
+use Prim.Native.Nat.{ℕ, zero, suc, _+_, _*_, _/_, _%_, _^_, _≤_, _<_}
 use mathlib.Core.Path.{_≡_, refl, sym, ap, subst, _∙_}
 use mathlib.Core.Bool.{Bool, true, false, _||_}
 use mathlib.Core.List.{List, [], _∷_, _++_}
@@ -14,12 +14,14 @@ use Rattle.files.specs.declared.Fault.{Fault}
 use Rattle.files.specs.declared.Fault.the-variants.{Version}
 use Rattle.files.specs.declared.End.the-variants.{File, Refused}
 use Rattle.files.specs.declared.Item.{Item}
-use Rattle.files.specs.File.{byteAt, wordAt, quadAt, settingsAt, signalOf, eventOf, eventAt, recordAt, Session, onItem, from, session}
-use Rattle.files.specs.Bytes.{signalKind, two, four, bytesOf, recordsOf, fileOf}
+use Rattle.files.specs.declared.Item.the-variants.{Got, Over}
+use Rattle.files.specs.File.{byteAt, wordAt, quadAt, settingsAt, signalOf, eventOf, eventAt, recordAt, itemAt, Session, onItem, from, session}
+use Rattle.files.specs.Bytes.{signalKind, two, four, bytesOf, recordsOf, fileOf, Fits, AllFit, none, next}
 use Rattle.files.specs.Laws.{Known, Record, ended, halfLength, shortBody, lengthZero, unknown, lengthWrong, event, Reached, opened, passed, File-written}
+use Rattle.files.specs.Laws.{ItemGiven, badVersion, first, later}
 use Rattle.files.specs.Laws.{powerUp as knownPowerUp, write as knownWrite, read as knownRead, signal as knownSignal}
 use Rattle.files.proofs.Lengths.{known-some}
-use Rattle.files.proofs.Given.{given-one}
+use Rattle.files.proofs.Given.{given-one, item-given}
 use Rattle.files.proofs.Walk.{reached-within, reached-item, session-opened, version-ends}
 use Rattle.rules.proofs.Choice.{upTo, upTo-at}
 
@@ -41,7 +43,7 @@ signals : upTo 10 (λ k. ltb k 4 || eqb (signalKind (signalOf k)) k) ≡ true
 unfolding upTo signalOf
 signals = refl
 
-signal-kind : (k : ℕ) → 4 ≤ k → k ≤ 9 → signalKind (signalOf k) ≡ k
+pub signal-kind : (k : ℕ) → 4 ≤ k → k ≤ 9 → signalKind (signalOf k) ≡ k
 signal-kind k h l = eqb-true _ k (rw (le-ltb k 4 h) at (upTo-at 10 (λ j. ltb j 4 || eqb (signalKind (signalOf j)) j) signals k (omega arith)))
 
 signal-event : (k o v : ℕ) (x : Settings) → 4 ≤ k → eventOf k o v x ≡ signal (signalOf k)
@@ -130,6 +132,45 @@ module _ (s : List ℕ) (bytes : (i : ℕ) → byteAt s i < 256) where
       let here = b (at + 1 + 1) (at + 2) (omega arith) in
       let own : eventAt s (at + 2) ≡ signal (signalOf j) = of-kind at _ e ∙ signal-event j _ _ _ a in
       (λ i. high i ∷ low i ∷ (here ∙ e ∙ sym (signal-kind j a c)) i ∷ []) ∙ ap bytesOf (sym own)
+
+  -- ---- The event of a record of bytes has fields that fit
+
+  quad-small : (p : ℕ) → quadAt s p < 2 ^ 32
+  quad-small p = omega (arith, word-small p, word-small (p + 2))
+
+  event-fits : (at k n : ℕ) → Known k n → byteAt s (at + 2) ≡ k → Fits (eventAt s (at + 2))
+  unfolding eventOf
+  event-fits at k n knownPowerUp e = subst Fits (sym (of-kind at _ e)) (bytes _, bytes _, bytes _, bytes _, word-small _)
+  event-fits at k n knownWrite e = subst Fits (sym (of-kind at _ e)) (bytes _, quad-small _)
+  event-fits at k n knownRead e = subst Fits (sym (of-kind at _ e)) (bytes _)
+  event-fits at k n (knownSignal j a c) e = subst Fits (sym (of-kind at _ e ∙ signal-event j _ _ _ a)) tt
+
+  abbrev Fitting : Item → Type 0
+  Fitting (Got e place) = Fits e
+  Fitting (Over x) = Unit {0}
+
+  record-fits : (at : ℕ) (i : Item) → Record s at i → Fitting i
+  record-fits at i (ended h) = tt
+  record-fits at i (halfLength x y) = tt
+  record-fits at i (shortBody x y) = tt
+  record-fits at i (lengthZero w x) = tt
+  record-fits at i (unknown w x u) = tt
+  record-fits at i (lengthWrong n w x k e) = tt
+  record-fits at i (event w k) = event-fits at _ _ k refl
+
+  item-fits : (at : ℕ) (i : Item) → ItemGiven s at i → Fitting i
+  item-fits at i (badVersion h) = tt
+  item-fits at i (first h j r) = record-fits 1 j r
+  item-fits at i (later k j r) = record-fits (suc k) j r
+
+  pub events-fit : (f at : ℕ) → AllFit ((from f s at) .events)
+  unfolding from
+  events-fit zero at = none
+  events-fit (suc f) at = go (events-fit f) (itemAt s at) (item-fits at _ (item-given s at))
+    where
+      go : ((place : ℕ) → AllFit ((from f s place) .events)) → (i : Item) → Fitting i → AllFit ((onItem (from f s) i) .events)
+      go rest (Got e place) h = next h (rest place)
+      go rest (Over x) h = none
 
 -- ---- The whole file
 

@@ -2,3 +2,6 @@ pub mod File
 pub mod Bytes
 pub mod Row
 pub mod Laws
+pub mod Pieces
+pub mod Writing
+pub mod WritingLaws

@@ -1,5 +1,4 @@
 -- What the functions' proofs cite; each file opens with what it shows.
-pub mod Joined
 pub mod Digits
 pub mod LineParts
 pub mod Printing

@@ -5,8 +5,9 @@ use mathlib.Core.List.{List, [], _∷_, _++_, append-assoc}
 use borrow.Author.Tests.{eq-eqb, ne-eqb}
 use Rattle.rules.specs.declared.Answer.{Answer}
 use Rattle.text.specs.Text.{space, newline, decimal, decimalIn, hex, line, levelsLine, fileLine, tail}
-use Rattle.lines.specs.Pieces.{Piece, rest}
-use Rattle.lines.proofs.Joined.{then, renamed}
+use Rattle.files.specs.Pieces.{Piece}
+use Rattle.lines.specs.Pieces.{rest}
+use Rattle.files.proofs.Joined.{then, renamed}
 
 -- ---- The line of a record
 

@@ -5,9 +5,9 @@ use mathlib.Core.Bool.{Bool, true, false, not}
 use mathlib.Core.List.{List}
 use lib.Dec.{leb}
 use lib.ListN.{length}
-use borrow.Author.Tests.{leb-true, not-true, not-false}
+use borrow.Author.Tests.{leb-true, le-leb, not-true, not-false}
 use Rattle.rules.proofs.Choice.{cond-true, cond-false}
-use Rattle.lines.specs.Pieces.{Piece}
+use Rattle.files.specs.Pieces.{Piece}
 use Rattle.lines.specs.Promises.{Printed}
 
 -- `size` is a number of its own, so that it need not be written where the function that writes is called
@@ -28,3 +28,9 @@ module _ (n : ℕ) (out : List ℕ) (at : ℕ) {text : List ℕ} {t : Bool} (tol
   unprinted h =
       let short = sym told ∙ not-true t h in
       record { place = sym (cond-false _ _ _ short); output = sym (cond-false _ _ _ short) }
+
+-- what a public function promises is a piece where there is room
+pub printed-piece : {n at p : ℕ} {o o1 xs : List ℕ} → Printed n o at xs o1 p → at + n ≤ length o → Piece o at xs o1 p
+printed-piece a h =
+    let fits = le-leb _ _ h in
+    record { place = a .place ∙ cond-true _ _ _ fits; text = a .output ∙ cond-true _ _ _ fits }

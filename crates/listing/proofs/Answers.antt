@@ -12,7 +12,7 @@ use Rattle.rules.proofs.Choice.{cond-true, cond-false}
 use Rattle.listing.specs.declared.Listed.the-variants.{Text, Short}
 use Rattle.files.specs.File.{session}
 use Rattle.text.specs.Text.{tooLong}
-use Rattle.lines.specs.Pieces.{Piece}
+use Rattle.files.specs.Pieces.{Piece}
 use Rattle.text.specs.Listing.{longest, listing, text, memoryAfter, room}
 use Rattle.listing.specs.Promises.{Lists}
 

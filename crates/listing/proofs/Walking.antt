@@ -1,8 +1,8 @@
 -- What the loops over a session keep (specs/Desk.antt): from the start they have passed nothing; an event that was played and written is
 -- passed; and at the end of the file all is written.
 use Prim.Native.Nat.{ℕ, _+_, _≤_}
-use mathlib.Core.Path.{_≡_, refl, sym, ap, subst, _∙_}
-use mathlib.Core.List.{List, [], _∷_}
+use mathlib.Core.Path.{_≡_, refl, sym, subst}
+use mathlib.Core.List.{List, _∷_}
 use native.Mathlib.Omega.{arith}
 use native.Mathlib.Nat.{le-refl}
 use lib.ListN.{length}
@@ -12,7 +12,7 @@ use Rattle.rules.specs.Record.{State, stateOf}
 use Rattle.rules.specs.Step.{step}
 use Rattle.rules.specs.Session.{after}
 use Rattle.files.specs.declared.End.{End}
-use Rattle.files.specs.File.{Session, session}
+use Rattle.files.specs.File.{session}
 use Rattle.files.proofs.Given.{item-grows}
 use Rattle.board.specs.declared.Reply.{Reply}
 use Rattle.board.specs.Promises.{Stepped}
@@ -21,10 +21,10 @@ use Rattle.text.proofs.Lengths.{line-length}
 use Rattle.run.specs.declared.Cursor.{Cursor}
 use Rattle.run.specs.declared.Ahead.the-variants.{Found, Over}
 use Rattle.run.specs.Run.{found}
-use Rattle.run.specs.Way.{Way, Passes}
-use Rattle.run.proofs.Ways.{event-stood, way-start, way-on, way-over, way-ends}
-use Rattle.lines.specs.Pieces.{Piece}
-use Rattle.lines.proofs.Joined.{then, piece-length}
+use Rattle.run.specs.Way.{Passes}
+use Rattle.run.proofs.Ways.{event-stood, way-start, way-on, way-over}
+use Rattle.files.specs.Pieces.{Piece}
+use Rattle.files.proofs.Joined.{then, piece-length}
 use Rattle.text.specs.Listing.{levelsOf, ending}
 use Rattle.listing.specs.Shortcuts.{InRun}
 use Rattle.listing.specs.Desk.{Desk, desk, Page, Writes, Fair, Walked}

@@ -3,7 +3,7 @@ ghost use Prim.Native.Nat.{_+_, _^_, _<_, _≤_};
 ghost use mathlib.Core.Path.{_≡_};
 ghost use lib.ListN.{length};
 ghost use Rattle.files.specs.File.{faultNumber, verdict};
-ghost use Rattle.lines.specs.Pieces.{Piece};
+ghost use Rattle.files.specs.Pieces.{Piece};
 ghost use Rattle.text.specs.Listing.{ending};
 use files::End;
 use files::Fault;

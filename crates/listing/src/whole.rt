@@ -5,7 +5,7 @@ ghost use lib.ListN.{length};
 ghost use Rattle.rules.specs.Record.{start as initially};
 ghost use Rattle.rules.specs.Session.{after};
 ghost use Rattle.files.specs.File.{session};
-ghost use Rattle.lines.specs.Pieces.{Piece};
+ghost use Rattle.files.specs.Pieces.{Piece};
 ghost use Rattle.text.specs.Listing.{body};
 use crate::hurry::hurry;
 use crate::tails::put_end;

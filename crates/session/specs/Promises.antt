@@ -1,9 +1,12 @@
--- The promise of the public function: it fixes the answer.
+-- The promises of the public functions: each fixes the answer.
 use Prim.Native.Nat.{ℕ}
 use mathlib.Core.Path.{_≡_}
 use mathlib.Core.List.{List}
 use Rattle.files.specs.declared.Item.{Item}
-use Rattle.files.specs.File.{itemAt}
+use Rattle.files.specs.File.{lengthOf, itemAt}
+
+pub record LengthTold (kind r : ℕ) : Type 0 where
+  pub told : r ≡ lengthOf kind
 
 pub record ItemTold (s : List ℕ) (at : ℕ) (r : Item) : Type 0 where
   pub told : r ≡ itemAt s at

@@ -34,19 +34,6 @@ pub(crate) fn quad_at(s: &[u8], at: usize) -> u32
     65536 * word_at(s, at) + word_at(s, at + 2)
 }
 
-// How long a record of a kind is, 0 where there is no such kind.
-pub(crate) fn length_of(kind: u32) -> u32
-    ensures { λ r. ⌜ (r ≡ lengthOf kind) × (r ≤ 7) ⌝ }
-{
-    match kind {
-        1 => 7,
-        2 => 6,
-        3 => 2,
-        4..=9 => 1,
-        _ => 0,
-    }
-}
-
 pub(crate) fn signal_of(kind: u32) -> Signal
     ensures { λ r. ⌜ r ≡ signalOf kind ⌝ }
 {

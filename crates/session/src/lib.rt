@@ -1,7 +1,7 @@
-// Session files: the record at a place of the lent file bytes. Every call takes every input.
+// Session files: the record at a place of the lent file bytes, and how long a record of a kind is. Every call takes every input.
 ghost use mathlib.Core.Path.{_≡_};
 ghost use Rattle.files.specs.File.{itemAt};
-ghost use Rattle.session.specs.Promises.{ItemTold};
+ghost use Rattle.session.specs.Promises.{LengthTold, ItemTold};
 use crate::common::ahead;
 use crate::common::load_stands;
 use crate::common::tick_stands;
@@ -18,6 +18,19 @@ use rules::Signal;
 mod common;
 mod fields;
 mod records;
+
+// 01: "Kinds and lengths": how long a record of a kind is, 0 where there is no such kind.
+pub fn length_of(kind: u32) -> u32
+    ensures { λ r. ⌜ LengthTold kind r ⌝ }
+{
+    match kind {
+        1 => 7,
+        2 => 6,
+        3 => 2,
+        4..=9 => 1,
+        _ => 0,
+    }
+}
 
 // Any record, its length and its kind tested in 01's order.
 pub(crate) fn any_at(s: &[u8], at: usize) -> Item

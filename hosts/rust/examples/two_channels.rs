@@ -1,8 +1,9 @@
-//! Two samples to two channels, the second with the end-of-frame mark, and a write that the board refuses; then the rate.
+//! Two samples to two channels, the second with the end-of-frame mark, and a write that the board refuses; then the rate,
+//! and the same events as a session file.
 
-use nergutsai::{event, rate, Event, Record};
+use nergutsai::{event, rate, Event, Record, Refusal};
 
-fn main() {
+fn main() -> Result<(), Refusal> {
     let write = |offset, value| Event::Write { offset, value };
     let session = [
         (
@@ -42,11 +43,24 @@ fn main() {
         println!("channel {channel}: {level:04X}");
     }
 
-    // A session file: a power-up, and a record that is cut.
-    let file = [
-        0x01, 0x00, 0x07, 0x01, 0x00, 0x01, 0x00, 0x00, 0x00, 0x10, 0x00,
-    ];
-    let mut text = vec![0; nergutsai::room(file.len())];
-    let length = nergutsai::list(&file, &mut memory, &mut text);
-    print!("{}", String::from_utf8_lossy(&text[..length]));
+    // An offset has one byte in a session file: with the last event nothing is written, and without it the rest is.
+    let rows: Vec<u32> = session.iter().flat_map(|(_, event)| event.row()).collect();
+    let mut file = vec![0; nergutsai::session_room(session.len())];
+    if let Err(refusal) = nergutsai::write(&rows, &mut file, 0) {
+        println!(
+            "{:<36} refusal {}  {refusal}",
+            "all nine as a session file",
+            refusal.number()
+        );
+    }
+    let end = nergutsai::write(&rows[..rows.len() - 6], &mut file, 0)?;
+    println!("{:<36} refusal 0  {end} bytes", "the first eight");
+
+    // The listing of that file, and of the same without its last byte.
+    for file in [&file[..end], &file[..end - 1]] {
+        let mut text = vec![0; nergutsai::room(file.len())];
+        let length = nergutsai::list(file, &mut memory, &mut text);
+        print!("{}", String::from_utf8_lossy(&text[..length]));
+    }
+    Ok(())
 }

@@ -1,7 +1,11 @@
 //! The proved model of the PC104P-16AO20 for hosts in Rust: a safe wrapper of `nergutsai_event`,
-//! `nergutsai_rate` and `nergutsai_list`.
+//! `nergutsai_rate`, `nergutsai_list` and `nergutsai_write`.
 //!
-//! The archives libbridge.a and libferry.a are for Linux on x86-64.
+//! The archives libbridge.a, libferry.a and libquay.a are for Linux on x86-64.
+
+mod refusal;
+
+pub use refusal::Refusal;
 
 /// A board record as the model lays it out (hosts/c/nergutsai.h names each number).
 /// Any 55 numbers may be handed in; a damaged record is refused by its own number.
@@ -63,7 +67,9 @@ pub enum Event {
 }
 
 impl Event {
-    fn numbers(self) -> [u32; 6] {
+    /// The event as a row, six numbers: its kind, then its fields, and 0 where the kind has none.
+    #[must_use]
+    pub fn row(self) -> [u32; 6] {
         match self {
             Event::PowerUp {
                 fitted,
@@ -135,6 +141,15 @@ extern "C" {
         output: *mut u8,
         output_length: usize,
     ) -> usize;
+
+    fn nergutsai_write(
+        rows: *const u32,
+        rows_length: usize,
+        output: *mut u8,
+        output_length: usize,
+        place: usize,
+        end: *mut usize,
+    ) -> u32;
 }
 
 /// The function itself, on numbers: answers 0, or why the call is not understood (hosts/c/nergutsai.h).
@@ -158,7 +173,7 @@ pub fn call(record: &mut [u32], memory: &mut [u32], event: &[u32], answer: &mut 
 /// One event. The memory may have any length: one that is too short for the board's depth is refused.
 pub fn event(record: &mut Record, memory: &mut [u32], event: Event) -> Answer {
     let mut answer = [0; 4];
-    let status = call(&mut record.0, memory, &event.numbers(), &mut answer);
+    let status = call(&mut record.0, memory, &event.row(), &mut answer);
     assert_eq!(
         status, 0,
         "the lengths and the kind are right by their types"
@@ -220,5 +235,39 @@ pub fn list(file: &[u8], memory: &mut [u32], output: &mut [u8]) -> usize {
             output.as_mut_ptr(),
             output.len(),
         )
+    }
+}
+
+/// The room that `write` asks for a session of so many events at most.
+#[must_use]
+pub fn session_room(events: usize) -> usize {
+    1 + 9 * events
+}
+
+/// The writer itself, on numbers: answers 0, or the number of the refusal (hosts/c/nergutsai.h), and sets `end`.
+/// Slices of any length and any place may be handed in.
+#[must_use]
+pub fn write_call(rows: &[u32], output: &mut [u8], place: usize, end: &mut usize) -> u32 {
+    // The borrows make the two slices and `end` valid and apart from each other, which is all that the function asks.
+    unsafe {
+        nergutsai_write(
+            rows.as_ptr(),
+            rows.len(),
+            output.as_mut_ptr(),
+            output.len(),
+            place,
+            end,
+        )
+    }
+}
+
+/// A session file of these events, a row of six numbers each (`Event::row`), into the output from the place on: the
+/// place after its last byte, counted from the output's start. Bytes outside of it do not change, and none at all
+/// where it is refused. A session may have any length; `list` takes up to 65,536 bytes.
+pub fn write(rows: &[u32], output: &mut [u8], place: usize) -> Result<usize, Refusal> {
+    let mut end = 0;
+    match write_call(rows, output, place, &mut end) {
+        0 => Ok(end),
+        number => Err(Refusal::of(number).expect("the writer has no other number")),
     }
 }

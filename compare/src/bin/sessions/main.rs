@@ -2,13 +2,13 @@
 //! of libferry.a.
 
 mod lent;
-mod shorten;
 mod tally;
 
 use compare::files::File;
 use compare::hex;
 use compare::process::{self, End, Progress};
 use compare::rng::Rng;
+use compare::shorten;
 use lent::Lent;
 use std::process::exit;
 use tally::Tally;

@@ -1,6 +1,6 @@
 -- `put_decimal` meets its contract: a number of one digit is that digit.
 use borrow.Author.Needs.{needs}
-use Rattle.lines.proofs.Joined.{piece-length}
+use Rattle.files.proofs.Joined.{piece-length}
 use Rattle.text.proofs.Numbers.{decimal-one}
 use Rattle.lines.proofs.pieces.put_decimal.Statement.{statement}
 use Rattle.lines.proofs.pieces.put_decimal.Tie as tie

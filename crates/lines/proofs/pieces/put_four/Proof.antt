@@ -1,7 +1,7 @@
 -- `put_four` meets its contract: its two pairs are the last four digits.
 use borrow.Author.Needs.{needs}
 use Rattle.lines.proofs.Digits.{two-pairs}
-use Rattle.lines.proofs.Joined.{then, renamed, piece-length}
+use Rattle.files.proofs.Joined.{then, renamed, piece-length}
 use Rattle.lines.proofs.pieces.put_four.Statement.{statement}
 use Rattle.lines.proofs.pieces.put_four.Tie as tie
 

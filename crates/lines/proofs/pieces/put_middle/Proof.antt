@@ -1,8 +1,7 @@
 -- `put_middle` meets its contract: the digits before the last four, and these.
-use native.Mathlib.Omega.{arith}
 use borrow.Author.Needs.{needs}
 use Rattle.text.proofs.Numbers.{decimal-four, decimal-long, decimal-room}
-use Rattle.lines.proofs.Joined.{then, piece-length, room}
+use Rattle.files.proofs.Joined.{then, piece-length, room}
 use Rattle.lines.proofs.pieces.put_middle.Statement.{statement}
 use Rattle.lines.proofs.pieces.put_middle.Tie as tie
 

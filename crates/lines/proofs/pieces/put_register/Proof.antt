@@ -2,7 +2,7 @@
 use native.Mathlib.Omega.{arith}
 use borrow.Author.Needs.{needs}
 use Rattle.text.specs.Text.{hex}
-use Rattle.lines.proofs.Joined.{then, piece-length, room}
+use Rattle.files.proofs.Joined.{then, piece-length, room}
 use Rattle.text.proofs.Numbers.{hex-long, hex-four}
 use Rattle.lines.proofs.pieces.put_register.Statement.{statement}
 use Rattle.lines.proofs.pieces.put_register.Tie as tie

@@ -3,7 +3,7 @@ use native.Mathlib.Omega.{arith}
 use borrow.Author.Needs.{needs}
 use Rattle.text.proofs.Numbers.{decimal-long, decimal-room}
 use Rattle.lines.proofs.Digits.{decimal-two}
-use Rattle.lines.proofs.Joined.{then, piece-length, room}
+use Rattle.files.proofs.Joined.{then, piece-length, room}
 use Rattle.lines.proofs.pieces.put_small.Statement.{statement}
 use Rattle.lines.proofs.pieces.put_small.Tie as tie
 

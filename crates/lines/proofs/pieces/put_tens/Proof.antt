@@ -2,7 +2,7 @@
 use borrow.Author.Needs.{needs}
 use Rattle.text.proofs.Numbers.{decimal-one}
 use Rattle.lines.proofs.Digits.{decimal-pair}
-use Rattle.lines.proofs.Joined.{piece-length}
+use Rattle.files.proofs.Joined.{piece-length}
 use Rattle.lines.proofs.pieces.put_tens.Statement.{statement}
 use Rattle.lines.proofs.pieces.put_tens.Tie as tie
 

@@ -3,7 +3,7 @@ use Prim.Native.Nat.{_+_, _≤_}
 use native.Mathlib.Omega.{arith}
 use lib.ListN.{length}
 use borrow.Author.Needs.{needs}
-use Rattle.lines.proofs.Joined.{then, piece-length, room}
+use Rattle.files.proofs.Joined.{then, piece-length, room}
 use Rattle.text.proofs.Numbers.{field-long}
 use Rattle.lines.proofs.whole.put_rest.Statement.{statement}
 use Rattle.lines.proofs.whole.put_rest.Tie as tie

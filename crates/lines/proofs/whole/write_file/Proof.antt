@@ -4,7 +4,7 @@ use native.Mathlib.Omega.{arith}
 use lib.ListN.{length}
 use borrow.Author.Needs.{needs}
 use Rattle.text.specs.Text.{fileLine}
-use Rattle.lines.proofs.Joined.{then, piece-length, room}
+use Rattle.files.proofs.Joined.{then, piece-length, room}
 use Rattle.text.proofs.Numbers.{decimal-long, field-long}
 use Rattle.lines.proofs.whole.write_file.Statement.{statement}
 use Rattle.lines.proofs.whole.write_file.Tie as tie

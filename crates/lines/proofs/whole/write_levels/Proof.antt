@@ -10,8 +10,8 @@ use mir.Syntax.{w16}
 use borrow.Kind.Array.{eInt, good-length}
 use borrow.Author.Needs.{needs}
 use Rattle.text.specs.Text.{levelsIn, levelsLine}
-use Rattle.lines.specs.Pieces.{Piece}
-use Rattle.lines.proofs.Joined.{then, piece-length, room}
+use Rattle.files.specs.Pieces.{Piece}
+use Rattle.files.proofs.Joined.{then, piece-length, room}
 use Rattle.text.proofs.Numbers.{hex-long}
 use Rattle.lines.proofs.whole.write_levels.Statement.{statement}
 use Rattle.lines.proofs.whole.write_levels.Tie as tie

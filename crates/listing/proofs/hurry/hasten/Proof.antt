@@ -1,12 +1,12 @@
 -- What `common_of` told is what stands ahead; the board of its parts is the one that `at_once` is given.
-use mathlib.Core.Path.{_≡_, sym, subst, _∙_}
+use mathlib.Core.Path.{sym, subst, _∙_}
 use mathlib.Core.Logic.{_≢_}
 use borrow.Author.Needs.{needs}
 use Rattle.rules.specs.declared.Board.{Board}
 use Rattle.record.specs.Promises.{DepthTold}
 use Rattle.board.specs.Promises.{Stepped}
 use Rattle.run.specs.declared.Ahead.the-variants.{Found}
-use Rattle.lines.proofs.Joined.{printed-piece}
+use Rattle.lines.proofs.Printing.{printed-piece}
 use Rattle.listing.specs.Shortcuts.{commonEvent, commonOf, quick, boardAs, boardWith, replyOf}
 use Rattle.listing.proofs.AtOnce.{quick-some, common-stands}
 use Rattle.listing.proofs.hurry.hasten.Statement.{statement}

@@ -1,10 +1,10 @@
 use Prim.Native.Nat.{_^_, _<_}
 use mathlib.Core.Path.{subst}
-use native.Mathlib.Omega.{arith}
 use borrow.Author.Needs.{needs}
 use Rattle.files.specs.declared.End.{End}
 use Rattle.files.specs.File.{verdict}
-use Rattle.lines.proofs.Joined.{printed-piece, piece-length}
+use Rattle.files.proofs.Joined.{piece-length}
+use Rattle.lines.proofs.Printing.{printed-piece}
 use Rattle.text.specs.Listing.{ending}
 use Rattle.listing.proofs.tails.put_end.Statement.{statement}
 use Rattle.listing.proofs.tails.put_end.Tie as tie

@@ -13,8 +13,8 @@ use Rattle.files.proofs.Given.{item-exactly}
 use Rattle.files.proofs.Sessions.{given-within}
 use Rattle.text.specs.Listing.{body}
 use Rattle.run.proofs.Ways.{end-stood, way-ends}
-use Rattle.lines.specs.Pieces.{Piece}
-use Rattle.lines.proofs.Joined.{printed-piece}
+use Rattle.files.specs.Pieces.{Piece}
+use Rattle.lines.proofs.Printing.{printed-piece}
 use Rattle.listing.specs.Desk.{desk, Walked}
 use Rattle.listing.proofs.Body.{in-reach}
 use Rattle.listing.proofs.Walking.{walked-start, walked-then, walked-on, walked-over, tail-room, line-room, number-small}

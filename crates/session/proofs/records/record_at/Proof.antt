@@ -69,7 +69,7 @@ event-at-requires c κs =
     let w = c .before .before .before .before .before .word-at .ensures .0 in
     let one = c .before .before .before .before .before .before .before .if1 .left in
     let two = c .before .before .before .before .before .before .if2 .left in
-    let kind = c .before .length-of .ensures .0 ∙ ap lengthOf (c .before .before .byte-at .ensures .0) in
+    let kind = c .before .length-of .ensures .told ∙ ap lengthOf (c .before .before .byte-at .ensures .0) in
     let same = sym w ∙ c .if5 .taken ∙ kind in
     (omega (arith, one, two, c .before .before .before .before .if3 .left, c .before .before .before .if4 .left), omega (arith, one, two, w, c .before .before .before .before .if3 .left, same))
 
@@ -87,7 +87,7 @@ returns-5 c =
     let w = c .before .before .before .before .before .before .word-at .ensures .0 in
     let one = c .before .before .before .before .before .before .before .before .if1 .left in
     let two = c .before .before .before .before .before .before .before .if2 .left in
-    let kind = c .before .before .length-of .ensures .0 ∙ ap lengthOf (c .before .before .before .byte-at .ensures .0) in
+    let kind = c .before .before .length-of .ensures .told ∙ ap lengthOf (c .before .before .before .byte-at .ensures .0) in
     let same = sym kind ∙ sym (c .before .if5 .taken) ∙ w in
     let known = length-known _ (λ z. c .before .before .before .before .if4 .left (w ∙ sym same ∙ z)) in
     (λ i. Got (c .event-at .ensures i) (c .before .before .before .before .before .before .before .before .before .before .args .at + 2 + w i))
@@ -101,7 +101,7 @@ returns-6 c =
     let w = c .before .before .before .before .before .before .before .word-at .ensures .0 in
     let one = c .before .before .before .before .before .before .before .before .before .if1 .left in
     let two = c .before .before .before .before .before .before .before .before .if2 .left in
-    let kind = c .before .before .before .length-of .ensures .0 ∙ ap lengthOf (c .before .before .before .before .byte-at .ensures .0) in
+    let kind = c .before .before .before .length-of .ensures .told ∙ ap lengthOf (c .before .before .before .before .byte-at .ensures .0) in
     c .refused4 .ensures ∙ sym (record-given _ _ _ (unknown (omega (arith, one, two, w, c .before .before .before .before .before .before .if3 .left)) (λ z. c .before .before .before .before .before .if4 .left (w ∙ z)) (zero-unknown _ (sym kind ∙ c .before .if6 .taken))))
 
 refused-requires-5 : tie.Need-refused-requires-5
@@ -112,7 +112,7 @@ returns-7 c =
     let w = c .before .before .before .before .before .before .before .word-at .ensures .0 in
     let one = c .before .before .before .before .before .before .before .before .before .if1 .left in
     let two = c .before .before .before .before .before .before .before .before .if2 .left in
-    let kind = c .before .before .before .length-of .ensures .0 ∙ ap lengthOf (c .before .before .before .before .byte-at .ensures .0) in
+    let kind = c .before .before .before .length-of .ensures .told ∙ ap lengthOf (c .before .before .before .before .byte-at .ensures .0) in
     let known = length-known _ (λ z. c .before .if6 .left (kind ∙ z)) in
     c .refused5 .ensures
     ∙ sym (record-given _ _ _ (lengthWrong _ (omega (arith, one, two, w, c .before .before .before .before .before .before .if3 .left)) (λ z. c .before .before .before .before .before .if4 .left (w ∙ z)) known (λ h. c .before .before .if5 .left (w ∙ h ∙ sym kind))))

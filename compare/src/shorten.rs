@@ -1,7 +1,7 @@
 //! Makes a session file that differs shorter: drops records, many at once and
 //! then one at a time, while it still differs.
 
-use compare::file;
+use crate::file;
 
 /// Runs that this may take.
 const TRIES: u32 = 4_000;

@@ -6,10 +6,7 @@ use native.Mathlib.Nat.{add-zero, add-suc, suc-add}
 use native.Mathlib.Omega.{arith}
 use lib.ListN.{length, set, length-append}
 use lib.Seq.{sets, length-sets}
-use borrow.Author.Tests.{le-leb}
-use Rattle.rules.proofs.Choice.{cond-true}
-use Rattle.lines.specs.Pieces.{Piece}
-use Rattle.lines.specs.Promises.{Printed}
+use Rattle.files.specs.Pieces.{Piece}
 
 sets-append : (l : List ℕ) (i : ℕ) (xs ys : List ℕ) → sets (sets l i xs) (i + length xs) ys ≡ sets l i (xs ++ ys)
 sets-append l i [] ys = rw add-zero
@@ -33,9 +30,3 @@ piece-length {o} {o1} {xs} {at} a = ap length (a .text) ∙ length-sets o at xs
 -- the room that is left after a piece of at most n bytes
 pub room : {o o1 xs : List ℕ} {at p : ℕ} (n k : ℕ) → at + (n + k) ≤ length o → Piece o at xs o1 p → length xs ≤ n → p + k ≤ length o1
 room n k h a l = omega (arith, piece-length a)
-
--- what a public function promises is a piece where there is room
-pub printed-piece : {n at p : ℕ} {o o1 xs : List ℕ} → Printed n o at xs o1 p → at + n ≤ length o → Piece o at xs o1 p
-printed-piece a h =
-    let fits = le-leb _ _ h in
-    record { place = a .place ∙ cond-true _ _ _ fits; text = a .output ∙ cond-true _ _ _ fits }

@@ -1,0 +1,234 @@
+//! `--coverage`: how often each refusal happened, and each meeting of them.
+
+use super::call::Call;
+use super::lent::Found;
+use super::rows::{events, most, ROW, UNKNOWN};
+use super::{faults, room};
+use compare::fields::*;
+use compare::file::{widths, LONGEST};
+use faults::Fault;
+use std::fmt::Arguments;
+
+#[derive(Default)]
+pub struct Tally {
+    lines: Vec<(String, u64)>,
+    /// The line that is next in a call.
+    at: usize,
+}
+
+/// What is known of a call.
+struct Seen {
+    refusal: Option<u32>,
+    rows: usize,
+    events: Vec<Event>,
+    /// The bad events: where they stand, and what is wrong first.
+    faults: Vec<(usize, Fault)>,
+    /// How long the session is, or would be.
+    length: usize,
+    room: usize,
+    place: usize,
+    /// How many bytes there are from the place on.
+    left: usize,
+}
+
+impl Seen {
+    fn refused(&self, refusal: u32) -> bool {
+        self.refusal == Some(refusal)
+    }
+
+    /// There is something wrong with a later event too.
+    fn later(&self, what: Fault) -> bool {
+        self.faults.iter().skip(1).any(|(_, fault)| *fault == what)
+    }
+
+    fn past(&self) -> bool {
+        self.place > self.room
+    }
+
+    /// The place is not past the end, but the session does not fit.
+    fn tight(&self) -> bool {
+        !self.past() && self.length > self.left
+    }
+
+    /// The event that decides, or one without fault.
+    fn bad(&self) -> Event {
+        let first = self.faults.first();
+        first.map_or(simple(TICK), |(at, _)| self.events[*at])
+    }
+}
+
+impl Tally {
+    pub fn note(&mut self, call: &Call, found: &Found) {
+        let events: Vec<Event> = events(&call.rows).collect();
+        let bad = |(at, event)| Some((at, faults::first(event)?));
+        let seen = Seen {
+            refusal: found.model.refusal,
+            rows: call.rows.len(),
+            faults: events.iter().enumerate().filter_map(bad).collect(),
+            events,
+            length: room::session(&call.rows),
+            room: call.room,
+            place: call.place,
+            left: call.room.saturating_sub(call.place),
+        };
+        self.at = 0;
+        self.written(&seen);
+        self.slices(&seen);
+        self.kinds(&seen);
+        self.fields(&seen);
+        self.first_of_several(&seen);
+        self.places(&seen);
+        self.rooms(&seen);
+    }
+
+    fn hit(&mut self, name: Arguments, happened: bool) {
+        if self.lines.len() == self.at {
+            self.lines.push((name.to_string(), 0));
+        }
+        self.lines[self.at].1 += happened as u64;
+        self.at += 1;
+    }
+
+    /// A line of its own, and each of these meetings.
+    fn hits(&mut self, name: &str, happened: bool, meetings: &[(&str, bool)]) {
+        self.hit(format_args!("{name}"), happened);
+        for (meeting, met) in meetings {
+            self.hit(format_args!("{name}, {meeting}"), happened && *met);
+        }
+    }
+
+    fn written(&mut self, seen: &Seen) {
+        let (length, left) = (seen.length, seen.left);
+        let written = seen.refused(0);
+        let meetings = [
+            ("no events", seen.events.is_empty()),
+            ("a session above 65,536 bytes", length > LONGEST),
+            ("from place 0", seen.place == 0),
+            ("from a later place", seen.place > 0),
+            ("up to the output's last byte", left == length),
+            ("one byte to spare", left == length + 1),
+            ("many bytes to spare", left > length + 1),
+        ];
+        self.hits("written", written, &meetings);
+        for kind in POWER_UP..=SETTLED {
+            let there = seen.events.iter().any(|event| event[0] == kind);
+            self.hit(format_args!("written, kind {kind}"), written && there);
+            for (i, width) in widths(kind).unwrap_or(&[]).iter().enumerate() {
+                for value in [0, most(*width)] {
+                    let name = format_args!("written, kind {kind}, field {} of {value}", i + 1);
+                    let there = |event: &Event| event[0] == kind && event[i + 1] == value;
+                    self.hit(name, written && seen.events.iter().any(there));
+                }
+            }
+        }
+    }
+
+    fn slices(&mut self, seen: &Seen) {
+        let refused = seen.refused(32);
+        let meetings = [
+            ("less than an event", seen.events.is_empty()),
+            ("a bad event before the cut", !seen.faults.is_empty()),
+            ("a place past the end", seen.past()),
+            ("too little room", seen.tight()),
+        ];
+        self.hits("refused 32", refused, &meetings);
+        for more in 1..ROW {
+            let name = format_args!("refused 32, {more} over whole events");
+            self.hit(name, refused && seen.rows % ROW == more);
+        }
+    }
+
+    fn kinds(&mut self, seen: &Seen) {
+        let (refused, bad) = (seen.refused(13), seen.bad());
+        let meetings = [
+            ("30 in the same event", bad[1..] != [0; 5]),
+            ("30 in a later event", seen.later(Fault::Field)),
+            ("13 in a later event", seen.later(Fault::Kind)),
+            ("a place past the end", seen.past()),
+            ("too little room", seen.tight()),
+        ];
+        self.hits("refused 13", refused, &meetings);
+        for kind in UNKNOWN {
+            let name = format_args!("refused 13, kind {kind}");
+            self.hit(name, refused && bad[0] == kind);
+        }
+    }
+
+    fn fields(&mut self, seen: &Seen) {
+        let (refused, bad) = (seen.refused(30), seen.bad());
+        let meetings = [
+            ("13 in a later event", seen.later(Fault::Kind)),
+            ("30 in a later event", seen.later(Fault::Field)),
+            ("a place past the end", seen.past()),
+            ("too little room", seen.tight()),
+        ];
+        self.hits("refused 30", refused, &meetings);
+        for kind in POWER_UP..=SETTLED {
+            let refused = refused && bad[0] == kind;
+            let widths = widths(kind).unwrap_or(&[]);
+            for (at, number) in bad.into_iter().enumerate().skip(1) {
+                let Some(width) = widths.get(at - 1) else {
+                    let name = format_args!("refused 30, kind {kind}, no field {at}, not 0");
+                    self.hit(name, refused && number > 0);
+                    continue;
+                };
+                // Four bytes hold any number.
+                let Some(least) = most(*width).checked_add(1) else {
+                    continue;
+                };
+                for (how, met) in [("", number == least), ("more than ", number > least)] {
+                    let name = format_args!("refused 30, kind {kind}, field {at}, {how}{least}");
+                    self.hit(name, refused && met);
+                }
+            }
+        }
+    }
+
+    fn first_of_several(&mut self, seen: &Seen) {
+        let refused = seen.refused(13) || seen.refused(30);
+        let events = seen.events.len();
+        let at = seen.faults.first().map_or(0, |(at, _)| *at);
+        let meetings = [
+            ("the only event", events == 1),
+            ("the first event of several", events > 1 && at == 0),
+            ("an event in the middle", at > 0 && at + 1 < events),
+            ("the last event of several", at > 0 && at + 1 == events),
+        ];
+        self.hits("refused 13 or 30", refused, &meetings);
+    }
+
+    fn places(&mut self, seen: &Seen) {
+        let (room, place) = (seen.room, seen.place);
+        let low = place as u32 as usize;
+        let meetings = [
+            ("one past the end", place.wrapping_sub(room) == 1),
+            ("an empty output", room == 0),
+            ("no events", seen.events.is_empty()),
+            ("the largest place", place == usize::MAX),
+            ("its low 32 bits inside", low < place && low <= room),
+            (
+                "the session's end wraps round to inside",
+                place.wrapping_add(seen.length) <= room,
+            ),
+        ];
+        self.hits("refused 20", seen.refused(20), &meetings);
+    }
+
+    fn rooms(&mut self, seen: &Seen) {
+        let meetings = [
+            ("one byte short", seen.left + 1 == seen.length),
+            ("the place is the output's end", seen.left == 0),
+            ("an empty output", seen.room == 0),
+            ("no events", seen.events.is_empty()),
+            ("a session above 65,536 bytes", seen.length > LONGEST),
+        ];
+        self.hits("refused 21", seen.refused(21), &meetings);
+    }
+
+    pub fn print(&self) {
+        println!("calls:");
+        for (name, times) in &self.lines {
+            println!("  {times:9}  {name}");
+        }
+    }
+}

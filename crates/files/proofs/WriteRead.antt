@@ -1,0 +1,98 @@
+-- What was written is read, and what was read is written; a refused call writes nothing (specs/WritingLaws).
+use Prim.Native.Nat.{ℕ, suc, _+_, _≤_}
+use mathlib.Core.Path.{_≡_, refl, sym, ap, subst, _∙_}
+use mathlib.Core.List.{List, _++_, append-assoc}
+use native.Mathlib.Omega.{arith}
+use borrow.Author.Tests.{eq-eqb, ne-eqb}
+use lib.ListN.{length, take, drop, length-append}
+use lib.Seq.{sets, sets-eq, slice, length-take-le, take-at, drop-at}
+use Rattle.rules.proofs.Choice.{cond-true, cond-false}
+use Rattle.files.specs.File.{session}
+use Rattle.files.specs.Bytes.{fileOf, AllFit}
+use Rattle.files.specs.Writing.{eventsIn, rowsOf, writeRefusal, stopped, outputAfter}
+use Rattle.files.specs.WritingLaws.{done, Write-refused, Write-read, Write-back}
+use Rattle.files.proofs.Written.{file-read}
+use Rattle.files.proofs.Rewritten.{file-written, events-fit}
+use Rattle.files.proofs.WritesGiven.{write-exactly, rows-events, good-call}
+
+pub write-refused : Write-refused
+unfolding stopped outputAfter
+write-refused xs out place h = (cond-false _ _ _ (ne-eqb _ 0 h), cond-false _ _ _ (ne-eqb _ 0 h))
+
+-- ---- A file that stands in an output
+
+module _ (out : List ℕ) (place : ℕ) (file : List ℕ) (room : place + length file ≤ length out) where
+  o : List ℕ
+  o = sets out place file
+
+  head : List ℕ
+  head = take place out ++ file
+
+  parted : o ≡ head ++ drop (place + length file) out
+  unfolding o head
+  parted = sets-eq file out place room
+
+  front : length (take place out) ≡ place
+  front = length-take-le place out (omega arith)
+
+  head-long : length head ≡ place + length file
+  unfolding head
+  head-long = omega (arith, length-append (take place out) file, front)
+
+  stands : slice place (place + length file) o ≡ file
+  unfolding head
+  stands =
+      ap (λ (x : List ℕ). drop place (take (place + length file) x)) parted
+      ∙ ap (drop place) (take-at head _ _ head-long)
+      ∙ drop-at (take place out) file place front
+
+  before : take place o ≡ take place out
+  unfolding head
+  before =
+      ap (take place) (parted ∙ append-assoc (take place out) file _)
+      ∙ take-at (take place out) _ place front
+
+  behind : drop (place + length file) o ≡ drop (place + length file) out
+  behind = ap (drop (place + length file)) parted ∙ drop-at head _ _ head-long
+
+-- ---- What a call that is not refused leaves
+
+module _ (xs out : List ℕ) (place : ℕ) (z : writeRefusal xs (length out) place ≡ 0) where
+  pub call-ends : stopped xs (length out) place ≡ place + length (fileOf (eventsIn xs))
+  unfolding stopped
+  call-ends = cond-true _ _ _ (eq-eqb _ 0 z)
+
+  pub call-leaves : outputAfter xs out place ≡ sets out place (fileOf (eventsIn xs))
+  unfolding outputAfter
+  call-leaves = cond-true _ _ _ (eq-eqb _ 0 z)
+
+pub write-read : Write-read
+unfolding o
+write-read xs out place z =
+    let g = good-call xs (length out) place z in
+    let file : List ℕ = fileOf (eventsIn xs) in
+    let end = call-ends xs out place z in
+    let left = call-leaves xs out place z in
+    let fits : AllFit (eventsIn xs) = subst AllFit (sym (g .events)) (g .fits) in
+    record {
+      within = omega (arith, end, g .room);
+      read = (λ i. session (slice place (end i) (left i))) ∙ ap session (stands out place file (g .room)) ∙ file-read (eventsIn xs) fits;
+      before = ap (take place) left ∙ before out place file (g .room);
+      behind = (λ i. drop (end i) (left i)) ∙ behind out place file (g .room) ∙ (λ i. drop (sym end i) out);
+    }
+
+pub write-back : Write-back
+unfolding o session
+write-back s out place bytes good room =
+    let es = (session s) .events in
+    let same : fileOf es ≡ s = file-written s bytes good in
+    let all : fileOf (eventsIn (rowsOf es)) ≡ s = ap fileOf (rows-events es) ∙ same in
+    let fits : AllFit es = events-fit s bytes (suc (length s)) 0 in
+    let z = write-exactly (rowsOf es) (length out) place 0 .1 (done es fits refl (omega (arith, ap length same))) in
+    let end = call-ends (rowsOf es) out place z in
+    let left = call-leaves (rowsOf es) out place z in
+    record {
+      to-end = end ∙ ap (λ (x : List ℕ). place + length x) all;
+      bytes =
+          (λ i. slice place (end i) (left i)) ∙ stands out place (fileOf (eventsIn (rowsOf es))) (omega (arith, ap length all)) ∙ all;
+    }

@@ -1,0 +1,7 @@
+-- What the functions' proofs cite; each file opens with what it shows.
+pub mod RowsAhead
+pub mod GoodRows
+pub mod Widths
+pub mod Loops
+pub mod Refusing
+pub mod Unique

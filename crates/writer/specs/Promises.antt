@@ -1,0 +1,18 @@
+-- The promises of the public functions: each fixes the answer, and that of the writer every byte of the output.
+use Prim.Native.Nat.{ℕ}
+use mathlib.Core.Path.{_≡_}
+use mathlib.Core.List.{List}
+use lib.ListN.{length}
+use Rattle.rules.specs.declared.Event.{Event}
+use Rattle.files.specs.Row.{rowOf}
+use Rattle.files.specs.Writing.{writeRefusal, stopped, outputAfter}
+use Rattle.writer.specs.declared.Written.{Written}
+
+pub record RowTold (e : Event) (r : List ℕ) : Type 0 where
+  pub told : r ≡ rowOf e
+
+-- write(xs, out, place) = r, and out is out′ afterwards
+pub record Writes (xs out : List ℕ) (place : ℕ) (r : Written) (out′ : List ℕ) : Type 0 where
+  pub refusal : r .refusal ≡ writeRefusal xs (length out) place
+  pub place-after : r .place ≡ stopped xs (length out) place
+  pub output : out′ ≡ outputAfter xs out place

@@ -1,0 +1,17 @@
+-- Any two outcomes that a promise allows are equal. The proofs are in proofs/.
+use Prim.Native.Nat.{ℕ}
+use mathlib.Core.Path.{_≡_}
+use mathlib.Core.List.{List}
+use Rattle.rules.specs.declared.Event.{Event}
+use Rattle.writer.specs.declared.Written.{Written}
+use Rattle.writer.specs.Promises.{RowTold, Writes}
+
+abbrev pub Row-unique : Type 0
+Row-unique = (e : Event) (r r′ : List ℕ) → RowTold e r → RowTold e r′ → r ≡ r′
+
+abbrev pub Writes-unique : Type 0
+Writes-unique =
+    (xs out : List ℕ) (place : ℕ) (r r′ : Written) (o o′ : List ℕ)
+    → Writes xs out place r o
+    → Writes xs out place r′ o′
+    → (r ≡ r′) × (o ≡ o′)

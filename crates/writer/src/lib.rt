@@ -1,0 +1,50 @@
+// Session files written (02, request 2026-01): rows of six numbers, one for each event, become a version 1 session in a lent output.
+// Every call takes every input: what is wrong is told by its number, and then nothing is written.
+ghost use Rattle.writer.specs.Promises.{RowTold, Writes};
+use crate::judging::refusal_of;
+use crate::kinds::kind_of;
+use crate::records::put_session;
+use rules::Event;
+
+mod judging;
+mod kinds;
+mod pieces;
+mod records;
+mod rows;
+
+// Where the writer stopped; refused, the place is 0.
+pub struct Written {
+    pub refusal: u32,
+    pub place: usize,
+}
+
+// The row of an event: its kind, then its fields, 0 where the kind has none.
+pub fn row_of(e: Event) -> [u32; 6]
+    ensures { λ r. ⌜ RowTold e r ⌝ }
+{
+    match e {
+        Event::PowerUp(x) => [1, x.fitted, x.range, x.filter, x.kit, x.firmware],
+        Event::Write { offset, value } => [2, offset, value, 0, 0, 0],
+        Event::Read { offset } => [3, offset, 0, 0, 0, 0],
+        Event::Signal(s) => [kind_of(s), 0, 0, 0, 0, 0],
+    }
+}
+
+// 02: "from a lent slice of events, six numbers each (kind, then fields), it writes a version 1 session into a lent output, from a place
+// the caller names, and says where it stopped". The rows are judged first, and written only where the whole session fits.
+pub fn write(rows: &[u32], out: &mut [u8], place: usize) -> Written
+    ensures { λ r. ⌜ Writes (now (rows .entry)) (now (out .entry)) place r (now (out .exit)) ⌝ }
+{
+    let n = refusal_of(rows, out.len(), place);
+    if n != 0 {
+        return Written {
+            refusal: n,
+            place: 0,
+        };
+    }
+    let end = put_session(rows, out, place);
+    Written {
+        refusal: 0,
+        place: end,
+    }
+}
