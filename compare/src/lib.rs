@@ -1,6 +1,6 @@
-//! What the four programs share: records, events and answers as numbers, the
-//! second model behind them, random sessions, and session files. Nothing here
-//! needs the archives.
+//! What the four programs share: their words, records, events and answers as
+//! numbers, the second model behind them, random sessions, and session files.
+//! Nothing here needs the archives.
 
 pub mod crc;
 pub mod damage;
@@ -10,6 +10,7 @@ pub mod files;
 pub mod generate;
 pub mod hex;
 pub mod model;
+pub mod options;
 pub mod panics;
 pub mod process;
 pub mod rng;

@@ -10,6 +10,7 @@ mod shrink;
 
 use check::{Case, Difference, Key, Outcome, Pair};
 use compare::generate::Session;
+use compare::options::given;
 use compare::process::{End, Progress};
 use compare::{fields, model, panics, process, words};
 use coverage::{Coverage, Seen};
@@ -66,13 +67,7 @@ struct Known {
 }
 
 fn main() {
-    let options = match options() {
-        Ok(options) => options,
-        Err(text) => {
-            eprintln!("{text}\n(`compare/run --help` tells more)");
-            exit(2);
-        }
-    };
+    let options = options();
     panics::quiet();
     let progress = Progress::new();
     if !options.child {
@@ -84,40 +79,24 @@ fn main() {
     }
 }
 
-fn options() -> Result<Options, String> {
-    let mut options = Options {
-        seed: 1,
-        events: 1_000_000,
-        keep_going: false,
-        coverage: false,
-        only: None,
-        child: true,
-    };
-    let mut given = std::env::args().skip(1);
-    while let Some(option) = given.next() {
-        let mut number = || -> Result<u64, String> {
-            let text = given
-                .next()
-                .ok_or(format!("{option}: a number is missing"))?;
-            text.replace(['_', ','], "")
-                .parse()
-                .map_err(|_| format!("{option}: `{text}` is not a number"))
-        };
-        match option.as_str() {
-            "--seed" => options.seed = number()?,
-            "--events" => options.events = number()?,
-            "--only" => options.only = Some(number()?),
-            "--keep-going" => options.keep_going = true,
-            "--coverage" => options.coverage = true,
-            "--no-child" => options.child = false,
-            "--help" | "-h" => {
-                print!("{HELP}");
-                exit(0);
-            }
-            _ => return Err(format!("`{option}` is not an option")),
+fn options() -> Options {
+    let (mut keep_going, mut child) = (false, true);
+    let given = given("compare/run", HELP, ("--events", 1_000_000), |word| {
+        match word {
+            "--keep-going" => keep_going = true,
+            "--no-child" => child = false,
+            _ => return false,
         }
+        true
+    });
+    Options {
+        seed: given.seed,
+        events: given.most,
+        keep_going,
+        coverage: given.coverage,
+        only: given.only,
+        child,
     }
-    Ok(options)
 }
 
 /// The whole comparison. Answers the exit status.

@@ -6,6 +6,7 @@ mod tally;
 
 use compare::files::File;
 use compare::hex;
+use compare::options::{self, Options};
 use compare::process::{self, End, Progress};
 use compare::rng::Rng;
 use compare::shorten;
@@ -43,21 +44,8 @@ const LINES: usize = 200;
 /// How the memory, the outputs and the rest are chosen, beside the files.
 const LENDING: u64 = 0x5E55_1015;
 
-struct Options {
-    seed: u64,
-    sessions: u64,
-    only: Option<u64>,
-    coverage: bool,
-}
-
 fn main() {
-    let options = match options() {
-        Ok(options) => options,
-        Err(text) => {
-            eprintln!("{text}\n(`compare/sessions --help` tells more)");
-            exit(2);
-        }
-    };
+    let options = options::given("compare/sessions", HELP, ("--sessions", 100_000), |_| false);
     let progress = Progress::new();
     match process::in_child(|| run(&options, &progress)) {
         End::Code(code) => exit(code),
@@ -65,49 +53,13 @@ fn main() {
     }
 }
 
-fn options() -> Result<Options, String> {
-    let mut options = Options {
-        seed: 1,
-        sessions: 100_000,
-        only: None,
-        coverage: false,
-    };
-    let mut given = std::env::args().skip(1);
-    while let Some(option) = given.next() {
-        let mut number = || -> Result<u64, String> {
-            let text = given
-                .next()
-                .ok_or(format!("{option}: a number is missing"))?;
-            text.replace(['_', ','], "")
-                .parse()
-                .map_err(|_| format!("{option}: `{text}` is not a number"))
-        };
-        match option.as_str() {
-            "--seed" => options.seed = number()?,
-            "--sessions" => options.sessions = number()?,
-            "--only" => options.only = Some(number()?),
-            "--coverage" => options.coverage = true,
-            "--help" | "-h" => {
-                print!("{HELP}");
-                exit(0);
-            }
-            _ => return Err(format!("`{option}` is not an option")),
-        }
-    }
-    Ok(options)
-}
-
 /// The whole comparison. Answers the exit status.
 fn run(options: &Options, progress: &Progress) -> i32 {
     println!("seed {}", options.seed);
-    let indices = match options.only {
-        Some(index) => index..index + 1,
-        None => 0..options.sessions,
-    };
     let mut lent = Lent::new();
     let mut tally = options.coverage.then(Tally::default);
     let (mut total, mut differ) = (0, 0);
-    for index in indices {
+    for index in options.indices() {
         progress.set(0, index);
         process::time_limit(SESSION_SECONDS);
         let file = File::new(options.seed, index);

@@ -12,6 +12,7 @@ mod tally;
 mod trial;
 
 use call::Call;
+use compare::options::{self, Options};
 use compare::panics;
 use compare::process::{self, End, Progress};
 use lent::Found;
@@ -52,21 +53,8 @@ const TRIES: u32 = 4_000;
 const CHILD_TRIES: u32 = 400;
 const WAITING_TRIES: u32 = 20;
 
-struct Options {
-    seed: u64,
-    calls: u64,
-    only: Option<u64>,
-    coverage: bool,
-}
-
 fn main() {
-    let options = match options() {
-        Ok(options) => options,
-        Err(text) => {
-            eprintln!("{text}\n(`compare/writer --help` tells more)");
-            exit(2);
-        }
-    };
+    let options = options::given("compare/writer", HELP, ("--calls", 100_000), |_| false);
     panics::quiet();
     let progress = Progress::new();
     match process::in_child(|| run(&options, &progress)) {
@@ -75,49 +63,13 @@ fn main() {
     }
 }
 
-fn options() -> Result<Options, String> {
-    let mut options = Options {
-        seed: 1,
-        calls: 100_000,
-        only: None,
-        coverage: false,
-    };
-    let mut given = std::env::args().skip(1);
-    while let Some(option) = given.next() {
-        let mut number = || -> Result<u64, String> {
-            let text = given
-                .next()
-                .ok_or(format!("{option}: a number is missing"))?;
-            text.replace(['_', ','], "")
-                .parse()
-                .map_err(|_| format!("{option}: `{text}` is not a number"))
-        };
-        match option.as_str() {
-            "--seed" => options.seed = number()?,
-            "--calls" => options.calls = number()?,
-            "--only" => options.only = Some(number()?),
-            "--coverage" => options.coverage = true,
-            "--help" | "-h" => {
-                print!("{HELP}");
-                exit(0);
-            }
-            _ => return Err(format!("`{option}` is not an option")),
-        }
-    }
-    Ok(options)
-}
-
 /// The whole comparison. Answers the exit status.
 fn run(options: &Options, progress: &Progress) -> i32 {
     println!("seed {}", options.seed);
-    let indices = match options.only {
-        Some(index) => index..index + 1,
-        None => 0..options.calls,
-    };
     let mut tally = options.coverage.then(Tally::default);
     let (mut total, mut differ) = (0, 0);
     let (mut read, mut refused, mut again) = (0, 0, 0);
-    for index in indices {
+    for index in options.indices() {
         progress.set(0, index);
         process::time_limit(CALL_SECONDS);
         let mut same = true;
