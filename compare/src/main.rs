@@ -69,14 +69,13 @@ struct Known {
 fn main() {
     let options = options();
     panics::quiet();
-    let progress = Progress::new();
     if !options.child {
-        exit(run(&options, &progress));
+        exit(run(&options, &Progress::new()));
     }
-    match process::in_child(|| run(&options, &progress)) {
-        End::Code(code) => exit(code),
-        End::Signal(signal) => exit(died(&options, &progress, signal)),
-    }
+    process::watched(
+        |progress| run(&options, progress),
+        |progress, signal| died(&options, progress, signal),
+    );
 }
 
 fn options() -> Options {

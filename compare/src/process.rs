@@ -2,6 +2,7 @@
 //! of the other side is a difference like any other. Linux only.
 
 use std::ffi::c_void;
+use std::process::exit;
 
 extern "C" {
     fn fork() -> i32;
@@ -48,6 +49,16 @@ impl Progress {
 /// A child that runs for longer is ended by signal 14.
 pub fn time_limit(seconds: u32) {
     unsafe { alarm(seconds) };
+}
+
+/// Runs a comparison in a child process, and ends with its exit status, or with
+/// what `died` makes of the signal that ended it.
+pub fn watched(run: impl FnOnce(&Progress) -> i32, died: impl FnOnce(&Progress, i32) -> i32) -> ! {
+    let progress = Progress::new();
+    exit(match in_child(|| run(&progress)) {
+        End::Code(code) => code,
+        End::Signal(signal) => died(&progress, signal),
+    })
 }
 
 /// Runs `work` in a child process; its number is the exit code.

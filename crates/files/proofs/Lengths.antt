@@ -29,6 +29,12 @@ known-some k n write e = absurd (omega arith)
 known-some k n read e = absurd (omega arith)
 known-some k n (signal j h l) e = absurd (omega arith)
 
+pub known-small : (k n : ℕ) → Known k n → k ≤ 9
+known-small k n powerUp = omega arith
+known-small k n write = omega arith
+known-small k n read = omega arith
+known-small k n (signal j h l) = l
+
 pub length-known : (k : ℕ) → lengthOf k ≢ 0 → Known k (lengthOf k)
 unfolding lengthOf
 length-known k =

@@ -3,11 +3,11 @@ use mathlib.Core.Path.{refl}
 use Rattle.rules.specs.Refusals.{firstOf}
 use Rattle.files.specs.File.{lengthOf, signalOf, eventOf, eventAt, wholeRecord, recordAt, itemAt, from, session}
 use Rattle.files.specs.Bytes.{recordsOf, fileOf}
-use Rattle.files.specs.Writing.{sixes, eventsIn, rowsOf, widths, fit, rowRefusal, firstBad, writeRefusal, stopped, outputAfter}
+use Rattle.files.specs.Writing.{sixes, eventsIn, rowsOf, widths, fit, rowRefusal, firstBad, writeRefusal, endPlace, outputAfter}
 use Rattle.files.specs.WritingLaws.{Scope-written, Every-kind-back, Refusals-told}
 
 pub scope-written : Scope-written
-unfolding firstOf lengthOf signalOf eventOf recordsOf fileOf sixes eventsIn widths fit rowRefusal firstBad writeRefusal stopped outputAfter
+unfolding firstOf lengthOf signalOf eventOf recordsOf fileOf sixes eventsIn widths fit rowRefusal firstBad writeRefusal endPlace outputAfter
 scope-written = record { refusal = refl; end = refl; output = refl }
 
 pub every-kind-back : Every-kind-back

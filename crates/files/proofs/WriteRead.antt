@@ -9,14 +9,14 @@ use lib.Seq.{sets, sets-eq, slice, length-take-le, take-at, drop-at}
 use Rattle.rules.proofs.Choice.{cond-true, cond-false}
 use Rattle.files.specs.File.{session}
 use Rattle.files.specs.Bytes.{fileOf, AllFit}
-use Rattle.files.specs.Writing.{eventsIn, rowsOf, writeRefusal, stopped, outputAfter}
+use Rattle.files.specs.Writing.{eventsIn, rowsOf, writeRefusal, endPlace, outputAfter}
 use Rattle.files.specs.WritingLaws.{done, Write-refused, Write-read, Write-back}
 use Rattle.files.proofs.Written.{file-read}
 use Rattle.files.proofs.Rewritten.{file-written, events-fit}
 use Rattle.files.proofs.WritesGiven.{write-exactly, rows-events, good-call}
 
 pub write-refused : Write-refused
-unfolding stopped outputAfter
+unfolding endPlace outputAfter
 write-refused xs out place h = (cond-false _ _ _ (ne-eqb _ 0 h), cond-false _ _ _ (ne-eqb _ 0 h))
 
 -- ---- A file that stands in an output
@@ -58,8 +58,8 @@ module _ (out : List ℕ) (place : ℕ) (file : List ℕ) (room : place + length
 -- ---- What a call that is not refused leaves
 
 module _ (xs out : List ℕ) (place : ℕ) (z : writeRefusal xs (length out) place ≡ 0) where
-  pub call-ends : stopped xs (length out) place ≡ place + length (fileOf (eventsIn xs))
-  unfolding stopped
+  pub call-ends : endPlace xs (length out) place ≡ place + length (fileOf (eventsIn xs))
+  unfolding endPlace
   call-ends = cond-true _ _ _ (eq-eqb _ 0 z)
 
   pub call-leaves : outputAfter xs out place ≡ sets out place (fileOf (eventsIn xs))

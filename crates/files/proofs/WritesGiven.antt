@@ -42,11 +42,19 @@ bad-some : (r : List ℕ) (m : ℕ) → BadRow r m → m ≢ 0
 bad-some r m (unknownKind u) = λ z. absurd (omega arith)
 bad-some r m (misfit k h never) = λ z. absurd (omega arith)
 
-first-bad : (r : List ℕ) (rs : List (List ℕ)) (m : ℕ) → length r ≡ 6 → BadRow r m → firstBad (r ∷ rs) ≡ m
+-- a good row is passed over, and one that is not decides
+pub first-good : (r : List ℕ) (rs : List (List ℕ)) → rowRefusal r ≡ 0 → firstBad (r ∷ rs) ≡ firstBad rs
 unfolding firstBad
+first-good r rs z = cond-true _ _ _ (eq-eqb _ 0 z)
+
+pub first-refused : (r : List ℕ) (rs : List (List ℕ)) → rowRefusal r ≢ 0 → firstBad (r ∷ rs) ≡ rowRefusal r
+unfolding firstBad
+first-refused r rs n = cond-false _ _ _ (ne-eqb _ 0 n)
+
+first-bad : (r : List ℕ) (rs : List (List ℕ)) (m : ℕ) → length r ≡ 6 → BadRow r m → firstBad (r ∷ rs) ≡ m
 first-bad r rs m l b =
     let e = bad-given r m l b in
-    cond-false _ _ _ (ne-eqb _ 0 (λ z. bad-some r m b (sym e ∙ z))) ∙ e
+    first-refused r rs (λ z. bad-some r m b (sym e ∙ z)) ∙ e
 
 -- ---- The rows up to the first bad one
 
@@ -81,7 +89,7 @@ rows-given (suc n) xs l =
     go r ys long rest m q (bad b) rs =
         subst (Rows (r ++ ys)) (sym (first-bad r (sixes n ys) m long b)) (oneBad [] r ys n m none long b rest refl)
     go r ys long rest m q (good e f p) rs =
-        subst (Rows (r ++ ys)) (sym (cond-true _ _ _ (eq-eqb _ 0 q)))
+        subst (Rows (r ++ ys)) (sym (first-good r (sixes n ys) q))
         (subst (λ (x : List ℕ). Rows (x ++ ys) (firstBad (sixes n ys))) (sym p) (rows-next e f ys _ rs))
 
 -- behind rows that are good the rest decides
@@ -93,7 +101,7 @@ behind-good (e ∷ es) (next f h) ys zero k q = absurd (omega (arith, q))
 behind-good (e ∷ es) (next f h) ys (suc n) k q =
     ap (λ (x : List ℕ). firstBad (sixes (suc n) x)) (append-assoc (rowOf e) (rowsOf es) ys)
     ∙ ap firstBad (sixes-cons n (rowOf e) (rowsOf es ++ ys) (row-long e))
-    ∙ cond-true _ _ _ (eq-eqb _ 0 (good-row e f))
+    ∙ first-good (rowOf e) (sixes n (rowsOf es ++ ys)) (good-row e f)
     ∙ behind-good es h ys n k (omega (arith, q))
 
 events-of : (es : List Event) (n : ℕ) → n ≡ length es → map eventOfRow (sixes n (rowsOf es)) ≡ es
@@ -211,7 +219,7 @@ write-exactly xs n place m = (λ q. subst (WriteGiven xs n place) q (write-given
 
 -- ---- A call that is not refused
 
-pub record Good (xs : List ℕ) (n place : ℕ) : Type 0 where
+pub record Unrefused (xs : List ℕ) (n place : ℕ) : Type 0 where
   pub es : List Event
   pub fits : AllFit es
   pub events : eventsIn xs ≡ es
@@ -219,10 +227,10 @@ pub record Good (xs : List ℕ) (n place : ℕ) : Type 0 where
   pub none-bad : firstBad (rowsIn xs) ≡ 0
   pub room : place + length (fileOf (eventsIn xs)) ≤ n
 
-pub good-call : (xs : List ℕ) (n place : ℕ) → writeRefusal xs n place ≡ 0 → Good xs n place
+pub good-call : (xs : List ℕ) (n place : ℕ) → writeRefusal xs n place ≡ 0 → Unrefused xs n place
 good-call xs n place z = go 0 refl (write-exactly xs n place 0 .0 z)
   where
-    go : (m : ℕ) → m ≡ 0 → WriteGiven xs n place m → Good xs n place
+    go : (m : ℕ) → m ≡ 0 → WriteGiven xs n place m → Unrefused xs n place
     go m q (notWhole u) = absurd (omega (arith, q))
     go m q (badEvent es r ys k j h l b y p) = absurd (bad-some r m b q)
     go m q (pastEnd es h p l) = absurd (omega (arith, q))

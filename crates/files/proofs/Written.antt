@@ -43,7 +43,8 @@ module _ (xs zs : List ℕ) where
 
 -- ---- An event read from its own record
 
-known : (e : Event) → Known (kindOf e) (length (kindOf e ∷ fieldsOf e))
+-- its kind is known, and its length is that kind's
+pub known : (e : Event) → Known (kindOf e) (length (kindOf e ∷ fieldsOf e))
 known (powerUp x) = knownPowerUp
 known (write o v) = knownWrite
 known (read o) = knownRead

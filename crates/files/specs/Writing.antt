@@ -4,7 +4,7 @@
 --   rowsOf es             the slice of the rows of these events
 --   rowRefusal r          what is wrong with a row: 13, 30, or 0
 --   writeRefusal xs n p   what is wrong with a call, on an output of n bytes from the place p on: 32, 13, 30, 20, 21, or 0
---   stopped xs n p        the place where the writer stopped
+--   endPlace xs n p       the place where the writer stopped
 --   outputAfter xs out p  the output that it leaves
 use Prim.Native.Nat.{ℕ, zero, suc, _+_, _/_, _%_, _^_}
 use mathlib.Core.Bool.{Bool, true, not, _&&_, cond}
@@ -74,8 +74,8 @@ writeRefusal xs n place =
 -- ---- What comes of a call
 
 -- 02: "it writes a version 1 session .. and says where it stopped"; a refusal "answers place 0"
-unfoldable pub stopped : List ℕ → ℕ → ℕ → ℕ
-stopped xs n place = cond (eqb (writeRefusal xs n place) 0) (place + length (fileOf (eventsIn xs))) 0
+unfoldable pub endPlace : List ℕ → ℕ → ℕ → ℕ
+endPlace xs n place = cond (eqb (writeRefusal xs n place) 0) (place + length (fileOf (eventsIn xs))) 0
 
 -- 02: ".. into a lent output, from a place the caller names"; "Bytes outside what it writes don't change"; a refusal "writes no byte"
 unfoldable pub outputAfter : List ℕ → List ℕ → ℕ → List ℕ

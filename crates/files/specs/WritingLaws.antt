@@ -20,7 +20,7 @@ use Rattle.files.specs.File.{byteAt, session}
 use Rattle.files.specs.Row.{rowOf, field, eventOfRow}
 use Rattle.files.specs.Bytes.{fileOf, Fits, AllFit}
 use Rattle.files.specs.Laws.{Known, everyKind}
-use Rattle.files.specs.Writing.{eventsIn, rowsOf, rowRefusal, writeRefusal, stopped, outputAfter}
+use Rattle.files.specs.Writing.{eventsIn, rowsOf, rowRefusal, writeRefusal, endPlace, outputAfter}
 
 -- ---- Rows
 
@@ -63,7 +63,7 @@ abbrev pub Write-refused : Type 0
 Write-refused =
     (xs out : List ℕ) (place : ℕ)
     → writeRefusal xs (length out) place ≢ 0
-    → (stopped xs (length out) place ≡ 0) × (outputAfter xs out place ≡ out)
+    → (endPlace xs (length out) place ≡ 0) × (outputAfter xs out place ≡ out)
 
 -- ---- Written and read
 
@@ -79,7 +79,7 @@ abbrev pub Write-read : Type 0
 Write-read =
     (xs out : List ℕ) (place : ℕ)
     → writeRefusal xs (length out) place ≡ 0
-    → Reread (eventsIn xs) out place (stopped xs (length out) place) (outputAfter xs out place)
+    → Reread (eventsIn xs) out place (endPlace xs (length out) place) (outputAfter xs out place)
 
 -- the output o has a copy of the session s, from the place on up to the end
 pub record Copied (s : List ℕ) (place end : ℕ) (o : List ℕ) : Type 0 where
@@ -93,7 +93,7 @@ Write-back =
     → ((i : ℕ) → byteAt s i < 256)
     → (session s) .end ≡ File
     → place + length s ≤ length out
-    → Copied s place (stopped (rowsOf ((session s) .events)) (length out) place) (outputAfter (rowsOf ((session s) .events)) out place)
+    → Copied s place (endPlace (rowsOf ((session s) .events)) (length out) place) (outputAfter (rowsOf ((session s) .events)) out place)
 
 -- ---- Examples
 
@@ -112,7 +112,7 @@ scopeRows =
 -- into an output of 52 bytes, from its byte 2 on: one byte is left behind it
 pub record ScopeWritten : Type 0 where
   pub refusal : writeRefusal scopeRows 52 2 ≡ 0
-  pub end : stopped scopeRows 52 2 ≡ 51
+  pub end : endPlace scopeRows 52 2 ≡ 51
   pub output : outputAfter scopeRows (replicate 52 0xEE) 2
       ≡ 0xEE ∷ 0xEE
       ∷ 0x01

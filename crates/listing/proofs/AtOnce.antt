@@ -2,7 +2,7 @@
 use Prim.Native.Nat.{ℕ, _%_, _≤_, _<_}
 use mathlib.Core.Path.{_≡_, refl, sym, ap, subst, _∙_}
 use mathlib.Core.Logic.{_≢_}
-use mathlib.Core.Bool.{Bool, true, false, cond, _&&_, false≢true}
+use mathlib.Core.Bool.{Bool, true, false, cond, false≢true}
 use mathlib.Core.List.{List}
 use native.Mathlib.Nat.{le-refl, min-eq-right}
 use native.Mathlib.Omega.{arith}
@@ -26,7 +26,7 @@ use Rattle.rules.specs.Refusals.{refusal}
 use Rattle.rules.specs.Step.{Outcome, reading, played, boardBefore, withRequest, refused, step}
 use Rattle.rules.specs.Laws.Soundness.{Stands}
 use Rattle.rules.specs.Laws.Refusals.{written, heard, aTick}
-use Rattle.rules.proofs.Choice.{all-cons, and-both, cond-true, cond-false}
+use Rattle.rules.proofs.Choice.{all-cons, and-both, and-true, cond-true, cond-false}
 use Rattle.rules.proofs.Steps.{step-cases}
 use Rattle.laws.proofs.Lasting.{done-stands, up-stands}
 use Rattle.rules.proofs.Refusals.{refusal-exactly, refusal-stands}
@@ -86,10 +86,6 @@ record Quiet (b : Board) (e : Event) : Type 0 where
   sizes : sizeAfter (b .size) e ≡ b .size
   holds : requestHeld (b .request) e ≡ b .request
   plain : initialises e ≡ false
-
-and-true : (x : Bool) → x && true ≡ x
-and-true true = refl
-and-true false = refl
 
 load-quiet : (b : Board) (v : ℕ) → Quiet b (Write 0x18 v)
 unfolding reading sizeAfter codeOf requestHeld initialises

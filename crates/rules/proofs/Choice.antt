@@ -1,6 +1,6 @@
 -- Choices by a test, and what tests joined by `&&`, `||`, `all` say of their parts.
 use Prim.Native.Nat.{ℕ, zero, suc, _<_}
-use mathlib.Core.Path.{_≡_, refl}
+use mathlib.Core.Path.{_≡_, refl, sym}
 use mathlib.Core.Bool.{Bool, true, false, not, _&&_, _||_, cond, true≢false, false≢true}
 use mathlib.Core.List.{List, [], _∷_}
 use native.Mathlib.Nat.{not-suc-le-zero}
@@ -41,6 +41,10 @@ and-both false y h = absurd (false≢true h)
 
 pub both-and : (x y : Bool) → x ≡ true → y ≡ true → x && y ≡ true
 both-and x y h k = rw (h, k)
+
+pub and-true : (x : Bool) → x && true ≡ x
+and-true true = refl
+and-true false = refl
 
 pub or-neither : (x y : Bool) → x || y ≡ false → (x ≡ false) × (y ≡ false)
 or-neither true y h = absurd (true≢false h)
@@ -111,6 +115,11 @@ not-false false f = absurd (f refl)
 pub or-cases {κ} : {C : Type κ} (x y : Bool) → x || y ≡ true → (x ≡ true → C) → (y ≡ true → C) → C
 or-cases true y h f g = f refl
 or-cases false y h f g = g h
+
+-- two tests of which each holds where the other does
+pub same-test : (s t : Bool) → (s ≡ true → t ≡ true) → (s ≡ false → t ≡ false) → s ≡ t
+same-test true t f g = sym (f refl)
+same-test false t f g = sym (g refl)
 
 -- ---- A test of every number below n, by computation
 

@@ -1,9 +1,9 @@
 -- Each promise says that the answer equals one thing: two that do are equal.
-use mathlib.Core.Path.{sym, _∙_}
+use Rattle.rules.proofs.Equal.{determined}
 use Rattle.session.specs.Unique.{Length-unique, Item-unique}
 
 pub length-unique : Length-unique
-length-unique kind r r′ p q = p .told ∙ sym (q .told)
+length-unique kind r r′ p q = determined (p .told) (q .told)
 
 pub item-unique : Item-unique
-item-unique s at r r′ p q = p .told ∙ sym (q .told)
+item-unique s at r r′ p q = determined (p .told) (q .told)

@@ -1,5 +1,5 @@
 -- What the functions' proofs cite; each file opens with what it shows.
-pub mod RowsAhead
+pub mod RowsOn
 pub mod GoodRows
 pub mod Widths
 pub mod Loops

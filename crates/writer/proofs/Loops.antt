@@ -14,16 +14,16 @@ use Rattle.files.specs.Writing.{rowsIn, eventsIn, rowRefusal, firstBad, writeRe
 use Rattle.files.proofs.Lengths.{length-small}
 use Rattle.files.proofs.Joined.{then, renamed, piece-length}
 use Rattle.files.proofs.WritesGiven.{good-call}
-use Rattle.writer.specs.Ahead.{ahead, rowAt, recordsAhead, JudgesRow, Judges}
+use Rattle.writer.specs.RowsFrom.{rowsFrom, rowAt, recordsFrom, JudgesRow, Judges}
 use Rattle.writer.proofs.GoodRows.{row-length}
-use Rattle.writer.proofs.RowsAhead.{ahead-start, file-start, none-bad-over, records-over, records-next, first-good, first-bad, row-good}
+use Rattle.writer.proofs.RowsOn.{from-start, file-start, none-bad-over, records-over, records-next, passed-over, decides, none-bad-here}
 
 -- before the end of a slice of whole rows there is room for one
 pub row-there : (n at : ℕ) → n % 6 ≡ 0 → at % 6 ≡ 0 → at < n → at + 6 ≤ n
 row-there n at h k l = omega arith
 
-pub row-long : (xs : List ℕ) (at : ℕ) → at + 6 ≤ length xs → length (rowAt xs at) ≡ 6
-row-long xs at h = length-take-le 6 (drop at xs) (omega (arith, length-drop at xs))
+pub row-at-long : (xs : List ℕ) (at : ℕ) → at + 6 ≤ length xs → length (rowAt xs at) ≡ 6
+row-at-long xs at h = length-take-le 6 (drop at xs) (omega (arith, length-drop at xs))
 
 -- ---- Judging
 
@@ -33,7 +33,7 @@ pub row-judged : (xs : List ℕ) (at : ℕ) → at + 6 ≤ length xs → (row : 
 row-judged xs at h row e z n q =
     let good : rowRefusal (rowAt xs at) ≡ 0 = sym (ap rowRefusal e) ∙ z in
     let l : n ≡ lengthOf (field (rowAt xs at) 0) = q ∙ ap (λ (r : List ℕ). lengthOf (field r 0)) e in
-    let long = row-length (rowAt xs at) (row-long xs at h) good in
+    let long = row-length (rowAt xs at) (row-at-long xs at h) good in
     let some : 1 ≤ n = omega (arith, l, long) in
     (some, record { refusal = sym good; small = omega (arith, l, length-small (field (rowAt xs at) 0)); long = λ _. omega (arith, l, long) })
 
@@ -42,8 +42,8 @@ pub record Judging (xs : List ℕ) (at fields : ℕ) : Type 0 where
   pub step : at % 6 ≡ 0
   pub within : at ≤ length xs
   pub small : fields ≤ at
-  pub first : firstBad (rowsIn xs) ≡ firstBad (ahead xs at)
-  pub long : length (fileOf (eventsIn xs)) ≡ 1 + 3 * (at / 6) + fields + length (recordsAhead xs at)
+  pub first : firstBad (rowsIn xs) ≡ firstBad (rowsFrom xs at)
+  pub long : length (fileOf (eventsIn xs)) ≡ 1 + 3 * (at / 6) + fields + length (recordsFrom xs at)
 
 pub judging-start : (xs : List ℕ) → Judging xs 0 0
 judging-start xs =
@@ -51,26 +51,26 @@ judging-start xs =
       step = refl;
       within = omega arith;
       small = omega arith;
-      first = sym (ap firstBad (ahead-start xs));
+      first = sym (ap firstBad (from-start xs));
       long = omega (arith, ap length (file-start xs));
     }
 
 module _ (xs : List ℕ) (at : ℕ) (h : at + 6 ≤ length xs) (fields : ℕ) (j : Judging xs at fields) (n k : ℕ) (r : JudgesRow xs at n k) where
   pub judging-next : n ≡ 0 → Judging xs (at + 6) (fields + k)
   judging-next z =
-      let long = length-append (bytesOf (eventOfRow (rowAt xs at))) (recordsAhead xs (at + 6)) in
+      let long = length-append (bytesOf (eventOfRow (rowAt xs at))) (recordsFrom xs (at + 6)) in
       record {
         step = omega (arith, j .step);
         within = h;
         small = omega (arith, j .small, r .small);
-        first = j .first ∙ first-good xs at h (sym (r .refusal) ∙ z);
+        first = j .first ∙ passed-over xs at h (sym (r .refusal) ∙ z);
         long = omega (arith, j .long, j .step, r .long z, long, ap length (records-next xs at h));
       }
 
   pub judging-bad : n ≢ 0 → Judges xs n k
   judging-bad z =
       record {
-        refusal = r .refusal ∙ sym (j .first ∙ first-bad xs at h (λ e. z (r .refusal ∙ e)));
+        refusal = r .refusal ∙ sym (j .first ∙ decides xs at h (λ e. z (r .refusal ∙ e)));
         long = λ e. absurd (z e);
       }
 
@@ -87,9 +87,9 @@ judging-over xs at fields j l =
 pub record Putting (xs out₀ : List ℕ) (to₀ : ℕ) (out : List ℕ) (to at : ℕ) : Type 0 where
   pub step : at % 6 ≡ 0
   pub within : at ≤ length xs
-  pub none-bad : firstBad (ahead xs at) ≡ 0
-  pub room : to + length (recordsAhead xs at) ≤ length out
-  pub whole : (o : List ℕ) (q : ℕ) → Piece out to (recordsAhead xs at) o q → Piece out₀ to₀ (recordsAhead xs 0) o q
+  pub none-bad : firstBad (rowsFrom xs at) ≡ 0
+  pub room : to + length (recordsFrom xs at) ≤ length out
+  pub whole : (o : List ℕ) (q : ℕ) → Piece out to (recordsFrom xs at) o q → Piece out₀ to₀ (recordsFrom xs 0) o q
 
 -- behind the version byte
 pub putting-start : (xs out₀ : List ℕ) (place : ℕ) (out : List ℕ) (to : ℕ)
@@ -101,7 +101,7 @@ putting-start xs out₀ place out to z p =
     record {
       step = refl;
       within = omega arith;
-      none-bad = ap firstBad (ahead-start xs) ∙ g .none-bad;
+      none-bad = ap firstBad (from-start xs) ∙ g .none-bad;
       room = omega (arith, p .place, piece-length p, g .room, ap length (file-start xs));
       whole = λ o q r. r;
     }
@@ -109,21 +109,21 @@ putting-start xs out₀ place out to z p =
 module _ (xs out₀ : List ℕ) (to₀ : ℕ) (out : List ℕ) (to at : ℕ) (h : at + 6 ≤ length xs) (s : Putting xs out₀ to₀ out to at) where
   pub row-fits : to + length (bytesOf (eventOfRow (rowAt xs at))) ≤ length out
   row-fits =
-      let long = length-append (bytesOf (eventOfRow (rowAt xs at))) (recordsAhead xs (at + 6)) in
+      let long = length-append (bytesOf (eventOfRow (rowAt xs at))) (recordsFrom xs (at + 6)) in
       omega (arith, s .room, ap length (records-next xs at h), long)
 
   pub row-unrefused : rowRefusal (rowAt xs at) ≡ 0
-  row-unrefused = row-good xs at h (s .none-bad)
+  row-unrefused = none-bad-here xs at h (s .none-bad)
 
   pub putting-next : (out′ : List ℕ) (to′ : ℕ)
       → Piece out to (bytesOf (eventOfRow (rowAt xs at))) out′ to′
       → Putting xs out₀ to₀ out′ to′ (at + 6)
   putting-next out′ to′ p =
-      let long = length-append (bytesOf (eventOfRow (rowAt xs at))) (recordsAhead xs (at + 6)) in
+      let long = length-append (bytesOf (eventOfRow (rowAt xs at))) (recordsFrom xs (at + 6)) in
       record {
         step = omega (arith, s .step);
         within = h;
-        none-bad = sym (first-good xs at h row-unrefused) ∙ s .none-bad;
+        none-bad = sym (passed-over xs at h row-unrefused) ∙ s .none-bad;
         room = omega (arith, s .room, p .place, piece-length p, ap length (records-next xs at h), long);
         whole = λ o q r. s .whole o q (renamed (records-next xs at h) (then p r));
       }

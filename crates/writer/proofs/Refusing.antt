@@ -11,20 +11,20 @@ use borrow.Author.Tests.{ltb-true, ltb-false}
 use Rattle.files.specs.Bytes.{fileOf}
 use Rattle.files.specs.Writing.{eventsIn, writeRefusal}
 use Rattle.files.proofs.WritesGiven.{decided, whole-decided, bad-decided, past-decided, short-decided, room-decided}
-use Rattle.writer.specs.Ahead.{Judges}
+use Rattle.writer.specs.RowsFrom.{Judges}
 
 module _ (xs : List ℕ) (n place : ℕ) (whole : length xs % 6 ≡ 0) (m fields : ℕ) (j : Judges xs m fields) where
-  found : writeRefusal xs n place ≡ decided m n place (length (fileOf (eventsIn xs)))
-  found =
+  by-finding : writeRefusal xs n place ≡ decided m n place (length (fileOf (eventsIn xs)))
+  by-finding =
       whole-decided xs n place whole
       ∙ ap (λ (k : ℕ). decided k n place (length (fileOf (eventsIn xs)))) (sym (j .refusal))
 
   pub row-refused : m ≢ 0 → m ≡ writeRefusal xs n place
-  row-refused z = sym (found ∙ bad-decided m n place _ z)
+  row-refused z = sym (by-finding ∙ bad-decided m n place _ z)
 
   module _ (z : m ≡ 0) where
     good : writeRefusal xs n place ≡ decided 0 n place (length (fileOf (eventsIn xs)))
-    good = found ∙ ap (λ (k : ℕ). decided k n place (length (fileOf (eventsIn xs)))) z
+    good = by-finding ∙ ap (λ (k : ℕ). decided k n place (length (fileOf (eventsIn xs)))) z
 
     pub past-refused : n < place → 20 ≡ writeRefusal xs n place
     past-refused l = sym (good ∙ past-decided n place _ l)

@@ -1,3 +1,3 @@
-pub mod Ahead
+pub mod RowsFrom
 pub mod Promises
 pub mod Unique

@@ -5,7 +5,7 @@ use mathlib.Core.List.{List}
 use lib.ListN.{length}
 use Rattle.rules.specs.declared.Event.{Event}
 use Rattle.files.specs.Row.{rowOf}
-use Rattle.files.specs.Writing.{writeRefusal, stopped, outputAfter}
+use Rattle.files.specs.Writing.{writeRefusal, endPlace, outputAfter}
 use Rattle.writer.specs.declared.Written.{Written}
 
 pub record RowTold (e : Event) (r : List ℕ) : Type 0 where
@@ -14,5 +14,5 @@ pub record RowTold (e : Event) (r : List ℕ) : Type 0 where
 -- write(xs, out, place) = r, and out is out′ afterwards
 pub record Writes (xs out : List ℕ) (place : ℕ) (r : Written) (out′ : List ℕ) : Type 0 where
   pub refusal : r .refusal ≡ writeRefusal xs (length out) place
-  pub place-after : r .place ≡ stopped xs (length out) place
+  pub place-after : r .place ≡ endPlace xs (length out) place
   pub output : out′ ≡ outputAfter xs out place

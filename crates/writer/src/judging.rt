@@ -4,7 +4,7 @@ ghost use mathlib.Core.Path.{_≡_};
 ghost use lib.Dec.{ltb};
 ghost use lib.ListN.{length};
 ghost use Rattle.files.specs.Writing.{writeRefusal};
-ghost use Rattle.writer.specs.Ahead.{Judges, JudgesRow};
+ghost use Rattle.writer.specs.RowsFrom.{Judges, JudgesRow};
 use crate::rows::row_at;
 use crate::rows::row_refusal;
 use session::length_of;

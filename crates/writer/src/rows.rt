@@ -4,7 +4,7 @@ ghost use mathlib.Core.Path.{_≡_};
 ghost use mathlib.Core.List.{[], _∷_};
 ghost use lib.ListN.{length};
 ghost use Rattle.files.specs.Writing.{widths, fit, rowRefusal};
-ghost use Rattle.writer.specs.Ahead.{rowAt};
+ghost use Rattle.writer.specs.RowsFrom.{rowAt};
 use session::length_of;
 
 // The six numbers from a place on.

@@ -7,11 +7,10 @@ mod tally;
 use compare::files::File;
 use compare::hex;
 use compare::options::{self, Options};
-use compare::process::{self, End, Progress};
+use compare::process::{self, Progress};
 use compare::rng::Rng;
 use compare::shorten;
 use lent::Lent;
-use std::process::exit;
 use tally::Tally;
 
 const HELP: &str = "\
@@ -46,11 +45,10 @@ const LENDING: u64 = 0x5E55_1015;
 
 fn main() {
     let options = options::given("compare/sessions", HELP, ("--sessions", 100_000), |_| false);
-    let progress = Progress::new();
-    match process::in_child(|| run(&options, &progress)) {
-        End::Code(code) => exit(code),
-        End::Signal(signal) => exit(died(&options, &progress, signal)),
-    }
+    process::watched(
+        |progress| run(&options, progress),
+        |progress, signal| died(&options, progress, signal),
+    );
 }
 
 /// The whole comparison. Answers the exit status.

@@ -16,7 +16,6 @@ use compare::options::{self, Options};
 use compare::panics;
 use compare::process::{self, End, Progress};
 use lent::Found;
-use std::process::exit;
 use tally::Tally;
 use trial::{Part, Trial, PARTS};
 
@@ -56,11 +55,10 @@ const WAITING_TRIES: u32 = 20;
 fn main() {
     let options = options::given("compare/writer", HELP, ("--calls", 100_000), |_| false);
     panics::quiet();
-    let progress = Progress::new();
-    match process::in_child(|| run(&options, &progress)) {
-        End::Code(code) => exit(code),
-        End::Signal(signal) => exit(died(&options, &progress, signal)),
-    }
+    process::watched(
+        |progress| run(&options, progress),
+        |progress, signal| died(&options, progress, signal),
+    );
 }
 
 /// The whole comparison. Answers the exit status.

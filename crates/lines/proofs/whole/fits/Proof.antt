@@ -1,19 +1,18 @@
 -- `fits` asks without a sum, which could wrap.
 use Prim.Native.Nat.{ℕ, _+_, _-_, _≤_}
-use mathlib.Core.Path.{_≡_, refl, sym}
-use mathlib.Core.Bool.{Bool, true, false}
+use mathlib.Core.Path.{_≡_, sym}
 use native.Mathlib.Omega.{arith}
 use lib.Dec.{leb}
 use borrow.Author.Tests.{leb-true, leb-false, le-leb, lt-leb}
+use Rattle.rules.proofs.Choice.{same-test}
 use Rattle.lines.proofs.whole.fits.Statement.{statement}
 use Rattle.lines.proofs.whole.fits.Tie as tie
 
-same-test : (length at n : ℕ) → n ≤ length → leb at (length - n) ≡ leb (at + n) length
-same-test length at n h = go (leb at (length - n)) refl
-  where
-    go : (t : Bool) → leb at (length - n) ≡ t → t ≡ leb (at + n) length
-    go true e = sym (le-leb (at + n) length (omega (arith, leb-true at (length - n) e)))
-    go false e = sym (lt-leb (at + n) length (omega (arith, leb-false at (length - n) e)))
+asked : (length at n : ℕ) → n ≤ length → leb at (length - n) ≡ leb (at + n) length
+asked length at n h =
+    same-test _ _
+    (λ e. le-leb (at + n) length (omega (arith, leb-true at (length - n) e)))
+    (λ e. lt-leb (at + n) length (omega (arith, leb-false at (length - n) e)))
 
 returns : tie.Need-returns
 returns c =
@@ -21,7 +20,7 @@ returns c =
     sym (lt-leb (a .at + a .n) (a .length) (omega arith))
 
 returns-2 : tie.Need-returns-2
-returns-2 c = same-test _ _ _ (c .if1 .left)
+returns-2 c = asked _ _ _ (c .if1 .left)
 
 pub fits-spec : {M : Type 1} → statement M
 fits-spec = tie.close (tie.spec returns returns-2)

@@ -5,7 +5,7 @@ use native.Mathlib.Omega.{arith}
 use denote.Ref.{now}
 use borrow.Author.Needs.{needs}
 use Rattle.files.specs.Writing.{rowRefusal}
-use Rattle.writer.specs.Ahead.{JudgesRow}
+use Rattle.writer.specs.RowsFrom.{JudgesRow}
 use Rattle.writer.proofs.Loops.{row-judged}
 use Rattle.writer.proofs.judging.judge_row.Statement.{statement}
 use Rattle.writer.proofs.judging.judge_row.Tie as tie

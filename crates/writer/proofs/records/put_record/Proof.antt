@@ -1,6 +1,4 @@
 -- `put_record` meets its contract: the head and the fields of a good row are the record of its event.
-use mathlib.Core.Path.{_≡_}
-use lib.ListN.{length}
 use mir.Syntax.{w32}
 use borrow.Kind.Array.{eInt, good-length}
 use borrow.Author.Needs.{needs}
@@ -8,9 +6,6 @@ use Rattle.files.proofs.Joined.{then, renamed}
 use Rattle.writer.proofs.GoodRows.{row-record}
 use Rattle.writer.proofs.records.put_record.Statement.{statement}
 use Rattle.writer.proofs.records.put_record.Tie as tie
-
-six-long : (c : tie.Start) → length (c .args .t3) ≡ 6
-six-long c = good-length (eInt w32) 6 (c .args .t3) _ (c .good .1 .1 .0)
 
 array-read-put-head : tie.Need-array-read-put-head
 array-read-put-head c = search needs
@@ -28,7 +23,9 @@ returns : tie.Need-returns
 returns c =
     let head = c .before .before .before .before .before .before in
     let s = head .before .before .before in
-    renamed (row-record (s .args .t3) (six-long s) (s .pre .0)) (then (head .put-head .ensures) (c .before .before .put-fields .ensures))
+    -- a parameter that is an array is as long as its type says
+    let six = good-length (eInt w32) 6 (s .args .t3) _ (s .good .1 .1 .0) in
+    renamed (row-record (s .args .t3) six (s .pre .0)) (then (head .put-head .ensures) (c .before .before .put-fields .ensures))
 
 pub put-record-spec : {M : Type 1} → statement M
 put-record-spec =

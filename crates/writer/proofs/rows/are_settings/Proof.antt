@@ -1,8 +1,9 @@
 -- `are_settings` meets its contract.
+use mathlib.Core.Path.{sym}
 use mathlib.Core.Bool.{_&&_}
 use lib.Dec.{ltb}
+use Rattle.rules.proofs.Choice.{and-true}
 use Rattle.files.specs.Writing.{fit}
-use Rattle.writer.proofs.Widths.{last-told}
 use Rattle.writer.proofs.rows.are_settings.Statement.{statement}
 use Rattle.writer.proofs.rows.are_settings.Tie as tie
 
@@ -10,7 +11,7 @@ returns : tie.Need-returns
 unfolding fit
 returns c =
     let a = c .args in
-    λ i. ltb (a .a) 256 && (ltb (a .b) 256 && (ltb (a .c) 256 && (ltb (a .d) 256 && last-told (ltb (a .e) 65536) i)))
+    λ i. ltb (a .a) 256 && (ltb (a .b) 256 && (ltb (a .c) 256 && (ltb (a .d) 256 && sym (and-true (ltb (a .e) 65536)) i)))
 
 pub are-settings-spec : {M : Type 1} → statement M
 are-settings-spec = tie.close (tie.spec returns)

@@ -10,7 +10,7 @@ use borrow.Author.Needs.{needs}
 use denote.Ref.{now}
 use Rattle.files.specs.Row.{field}
 use Rattle.files.proofs.RowsGiven.{row-numbers}
-use Rattle.writer.specs.Ahead.{rowAt}
+use Rattle.writer.specs.RowsFrom.{rowAt}
 use Rattle.writer.proofs.rows.row_at.Statement.{statement}
 use Rattle.writer.proofs.rows.row_at.Tie as tie
 

@@ -1,7 +1,7 @@
 -- The rows from a place of a slice on, as a loop over them has them before it.
 --   rowAt xs at          the row at a place
---   ahead xs at          the rows from there on
---   recordsAhead xs at   their records
+--   rowsFrom xs at       the rows from there on
+--   recordsFrom xs at   their records
 use Prim.Native.Nat.{ℕ, _+_, _*_, _-_, _/_, _≤_}
 use mathlib.Core.Path.{_≡_}
 use mathlib.Core.List.{List, map}
@@ -10,16 +10,16 @@ use Rattle.files.specs.Bytes.{bytesOf, recordsOf, fileOf}
 use Rattle.files.specs.Row.{eventOfRow}
 use Rattle.files.specs.Writing.{sixes, rowsIn, eventsIn, rowRefusal, firstBad}
 
-abbrev pub ahead : List ℕ → ℕ → List (List ℕ)
-ahead xs at = sixes ((length xs - at) / 6) (drop at xs)
+abbrev pub rowsFrom : List ℕ → ℕ → List (List ℕ)
+rowsFrom xs at = sixes ((length xs - at) / 6) (drop at xs)
 
 -- the row at a place
 abbrev pub rowAt : List ℕ → ℕ → List ℕ
 rowAt xs at = take 6 (drop at xs)
 
 -- the records that are left to write
-abbrev pub recordsAhead : List ℕ → ℕ → List ℕ
-recordsAhead xs at = recordsOf (map eventOfRow (ahead xs at))
+abbrev pub recordsFrom : List ℕ → ℕ → List ℕ
+recordsFrom xs at = recordsOf (map eventOfRow (rowsFrom xs at))
 
 -- what is found of the row at a place: by which number it is refused, and, where it is good, how many bytes its fields have
 pub record JudgesRow (xs : List ℕ) (at : ℕ) (n fields : ℕ) : Type 0 where
