@@ -9,6 +9,8 @@ use std::collections::BTreeMap;
 pub struct Coverage {
     lines: Vec<(&'static str, u64)>,
     broken: BTreeMap<&'static str, u64>,
+    /// Power-ups, by the settings that are out of range: a bit for each.
+    power_ups: [u64; 32],
 }
 
 pub struct Seen<'a> {
@@ -31,6 +33,10 @@ impl Coverage {
             [] => {}
             [clause] => *self.broken.entry(clause).or_default() += 1,
             _ => *self.broken.entry("more than one clause").or_default() += 1,
+        }
+
+        if e[0] == POWER_UP {
+            self.power_ups[bad_settings(e)] += 1;
         }
 
         let sound = broken.is_empty();
@@ -98,16 +104,29 @@ impl Coverage {
             "power-up refused 1: fitted far out",
             up && refusal == 1 && e[1] > 31,
         );
-        hit("power-up refused 1: range", up && refusal == 1 && e[2] > 2);
-        hit("power-up refused 1: filter", up && refusal == 1 && e[3] > 2);
-        hit("power-up refused 1: kit", up && refusal == 1 && e[4] > 2);
         hit(
-            "power-up refused 1: firmware 4096",
-            up && refusal == 1 && e[5] == 4096,
+            "power-up refused 14: range 3",
+            up && refusal == 14 && e[2] == 3,
         );
         hit(
-            "power-up refused 1 with a memory too short",
-            up && refusal == 1 && e[1] <= 15 && length < 8 << e[1].min(15),
+            "power-up refused 15: filter 3",
+            up && refusal == 15 && e[3] == 3,
+        );
+        hit(
+            "power-up refused 16: kit 3",
+            up && refusal == 16 && e[4] == 3,
+        );
+        hit(
+            "power-up refused 17: firmware 4096",
+            up && refusal == 17 && e[5] == 4096,
+        );
+        hit(
+            "power-up refused 14 to 16 with a memory too short",
+            up && (14..17).contains(&refusal) && length < 8 << e[1].min(15),
+        );
+        hit(
+            "power-up refused 17 with a memory too short",
+            up && refusal == 17 && length < 8 << e[1].min(15),
         );
         hit("power-up refused 2", up && refusal == 2);
         hit(
@@ -664,9 +683,28 @@ impl Coverage {
             let mark = if *number == 0 { "  <-- never" } else { "" };
             println!("  {number:9}  {name}{mark}");
         }
+        println!("power-ups, by the settings that are out of range:");
+        for (bad, number) in self.power_ups.iter().enumerate() {
+            let names: Vec<&str> = (0..SETTINGS.len())
+                .filter(|setting| bad >> setting & 1 == 1)
+                .map(|setting| SETTINGS[setting].0)
+                .collect();
+            let names = if bad == 0 { "none" } else { &names.join(", ") };
+            let mark = if *number == 0 { "  <-- never" } else { "" };
+            println!("  {number:9}  {names}{mark}");
+        }
         println!("events on a record that breaks exactly one clause of soundness:");
         for (name, number) in &self.broken {
             println!("  {number:9}  {name}");
         }
     }
+}
+
+/// The settings of a power-up that are out of range, a bit for each.
+fn bad_settings(event: &Event) -> usize {
+    SETTINGS
+        .iter()
+        .enumerate()
+        .map(|(setting, (_, limit))| ((event[1 + setting] > *limit) as usize) << setting)
+        .sum()
 }

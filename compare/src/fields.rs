@@ -128,6 +128,16 @@ pub const BCR: u32 = 0x00;
 pub const BOR: u32 = 0x0C;
 pub const REGISTERS: [u32; 8] = [0x00, 0x04, 0x08, 0x0C, 0x10, 0x14, 0x18, 0x1C];
 
+/// The settings of a power-up, from its second number on, and the largest number
+/// that each may be.
+pub const SETTINGS: [(&str, u32); 5] = [
+    ("fitted", 15),
+    ("range", 2),
+    ("filter", 2),
+    ("kit", 2),
+    ("firmware", 4095),
+];
+
 pub const EOF: u32 = 0x1_0000;
 
 pub fn name(field: usize) -> String {

@@ -568,16 +568,29 @@ impl Session {
         ]
     }
 
-    /// A power-up with a setting out of range, a memory too short, or both.
+    /// A power-up with some of its settings out of range, in any combination, a
+    /// memory too short, or both.
     fn power_up_refused(&mut self) -> Event {
         let fitted = self.rng.below(16);
         let mut event = self.power_up(fitted);
         if self.rng.chance(3, 4) {
-            let field = 1 + self.rng.below(5) as usize;
-            let limit = [15, 2, 2, 2, 4095][field - 1];
-            event[field] = self.beyond(limit);
+            let bad = 1 + self.rng.below(31);
+            for (setting, (_, limit)) in SETTINGS.into_iter().enumerate() {
+                if bad >> setting & 1 == 1 {
+                    event[1 + setting] = self.beyond(limit).min(self.widest(setting));
+                }
+            }
         }
         event
+    }
+
+    /// The largest number that a setting of a power-up has room for.
+    fn widest(&self, setting: usize) -> u32 {
+        match (&self.start, setting) {
+            (Start::File, 0..4) => 0xFF,
+            (Start::File, _) => 0xFFFF,
+            _ => u32::MAX,
+        }
     }
 
     /// An offset that is none of the eight, or a write to 10h or 14h.

@@ -1,5 +1,5 @@
-/* Two samples to two channels, the second with the end-of-frame mark, and a write that the board refuses; then the rate, and the
- * same events as a session file. */
+/* Two samples to two channels, the second with the end-of-frame mark, with a power-up and a write that the board refuses; then the
+ * rate, and the same events as a session file. */
 #include "nergutsai.h"
 
 #include <inttypes.h>
@@ -10,6 +10,7 @@ static const struct {
     const char *what;
     uint32_t event[NERGUTSAI_EVENT];
 } session[] = {
+    {"power up with range code 3", {NERGUTSAI_POWER_UP, 0, 3, 0, 0, 0x123}},
     {"power up, 8 values deep, 6 channels", {NERGUTSAI_POWER_UP, 0, 0, 0, 0, 0x123}},
     {"channels 0 and 1", {NERGUTSAI_WRITE, 0x04, 0x3}},
     {"load 1234h", {NERGUTSAI_WRITE, 0x18, 0x01234}},
@@ -25,13 +26,24 @@ enum { EVENTS = sizeof session / sizeof *session };
 static const char *words(uint32_t refusal)
 {
     switch (refusal) {
+    case NERGUTSAI_BAD_FITTED: return "the fitted code is out of range: it is 0 to 15";
+    case NERGUTSAI_BAD_RANGE: return "the range code is out of range: it is 0 to 2";
+    case NERGUTSAI_BAD_FILTER: return "the filter code is out of range: it is 0 to 2";
+    case NERGUTSAI_BAD_KIT: return "the kit code is out of range: it is 0 to 2";
+    case NERGUTSAI_BAD_FIRMWARE: return "the firmware number is out of range: it is 0 to 4095";
+    case NERGUTSAI_MEMORY_TOO_SHORT: return "the sample memory is shorter than the depth: lend more, or fit a lower code";
+    case NERGUTSAI_NOT_SOUND: return "the record is damaged, or the board is not powered up: begin with a power-up";
+    case NERGUTSAI_NO_REGISTER: return "there is no register at this offset: 00, 04, 08, 0C, 10, 14, 18 or 1C (hex)";
+    case NERGUTSAI_READ_ONLY: return "10h and 14h cannot be written: leave the write out";
+    case NERGUTSAI_BUSY: return "the board is calibrating: end the calibration first";
+    case NERGUTSAI_NOTHING_TO_END: return "no calibration runs, or the clock is not settling: leave the event out";
     case NERGUTSAI_NOT_WHOLE_EVENTS: return "the rows are not whole events: hand in all six numbers of every event";
     case NERGUTSAI_UNKNOWN_KIND: return "an event is of no known kind: kinds are 1 to 9";
     case NERGUTSAI_FIELD_TOO_LARGE:
         return "a field is too large for its bytes, or not 0 where the kind has none: correct the first such event";
     case NERGUTSAI_PLACE_PAST_END: return "the place is past the output's end: name one inside the output";
     case NERGUTSAI_NO_ROOM: return "the session does not fit from the place on: lend a longer output";
-    default: return "written";
+    default: return "done";
     }
 }
 
@@ -51,6 +63,8 @@ int main(void)
         printf("%-36s refusal %" PRIu32 "  register %08" PRIX32 "  moved %" PRIu32 "  fate %" PRIu32 "\n",
             session[i].what, answer[NERGUTSAI_REFUSAL], answer[NERGUTSAI_REGISTER], answer[NERGUTSAI_MOVED],
             answer[NERGUTSAI_FATE]);
+        if (answer[NERGUTSAI_REFUSAL] != NERGUTSAI_DONE)
+            printf("    %s\n", words(answer[NERGUTSAI_REFUSAL]));
     }
     uint32_t figures[NERGUTSAI_FIGURES];
     uint32_t status = nergutsai_rate(record, NERGUTSAI_RECORD, figures, NERGUTSAI_FIGURES);
@@ -70,9 +84,9 @@ int main(void)
     uint8_t file[NERGUTSAI_SESSION_ROOM(EVENTS)];
     size_t end = 0;
     uint32_t refusal = nergutsai_write(rows, EVENTS * NERGUTSAI_EVENT, file, sizeof file, 0, &end);
-    printf("%-36s refusal %" PRIu32 "  %s\n", "all nine as a session file", refusal, words(refusal));
+    printf("%-36s refusal %" PRIu32 "  %s\n", "all ten as a session file", refusal, words(refusal));
     refusal = nergutsai_write(rows, (EVENTS - 1) * NERGUTSAI_EVENT, file, sizeof file, 0, &end);
-    printf("%-36s refusal %" PRIu32 "  %zu bytes\n", "the first eight", refusal, end);
+    printf("%-36s refusal %" PRIu32 "  %zu bytes\n", "the first nine", refusal, end);
     if (refusal != NERGUTSAI_WRITTEN)
         return 1;
 

@@ -48,6 +48,23 @@ enum {
 /* The numbers of an answer. */
 enum { NERGUTSAI_REFUSAL, NERGUTSAI_REGISTER, NERGUTSAI_MOVED, NERGUTSAI_FATE };
 
+/* The refusal number of an answer: that the event was done, or why not. A power-up names its first bad setting, in the order of
+ * this list; where several things are wrong with another event, the lowest number is told, but 3 before 2. */
+enum {
+    NERGUTSAI_DONE = 0,
+    NERGUTSAI_BAD_FITTED = 1,       /* power-up: the fitted code is not 0 to 15 */
+    NERGUTSAI_BAD_RANGE = 14,       /* power-up: the range code is not 0 to 2 */
+    NERGUTSAI_BAD_FILTER = 15,      /* power-up: the filter code is not 0 to 2 */
+    NERGUTSAI_BAD_KIT = 16,         /* power-up: the kit code is not 0 to 2 */
+    NERGUTSAI_BAD_FIRMWARE = 17,    /* power-up: the firmware number is not 0 to 4095 */
+    NERGUTSAI_MEMORY_TOO_SHORT = 2, /* the memory is shorter than the depth: lend more, or power up with a lower fitted code */
+    NERGUTSAI_NOT_SOUND = 3,        /* the record is damaged, or the board is not powered up: begin with a power-up */
+    NERGUTSAI_NO_REGISTER = 4,      /* there is no register at the offset: 00, 04, 08, 0C, 10, 14, 18 or 1C (hex) */
+    NERGUTSAI_READ_ONLY = 5,        /* 10h and 14h cannot be written */
+    NERGUTSAI_BUSY = 6,             /* no write while the board is calibrating: end the calibration first */
+    NERGUTSAI_NOTHING_TO_END = 7    /* no calibration runs, or the clock is not settling */
+};
+
 /* The figures of a rate question: its refusal number, the reference in whole hertz, the sample rate in whole hertz. */
 enum { NERGUTSAI_RATE_REFUSAL, NERGUTSAI_REFERENCE, NERGUTSAI_RATE };
 

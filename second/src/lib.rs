@@ -1,10 +1,11 @@
 //! A second, independent model of the output board, written from document 01
 //! ("Build outline: the output board and its exact rules") and, where 01 is
 //! silent, from the board's manual; of document 02 ("Further changes
-//! requested") it has request 2026-01. It is written to be read beside them:
-//! each rule stands under a comment that quotes its sentence. DECISIONS.md lists
-//! the places where a sentence had to be interpreted. `#[inline]` marks what
-//! every event of a listing or of a written session goes through.
+//! requested") it has requests 2026-01 and 2026-02. It is written to be read
+//! beside them: each rule stands under a comment that quotes its sentence.
+//! DECISIONS.md lists the places where a sentence had to be interpreted.
+//! `#[inline]` marks what every event of a listing or of a written session goes
+//! through.
 
 #![forbid(unsafe_code)]
 

@@ -2,7 +2,8 @@
 
 /// Room for the longest line. It has 29 bytes: five for the record number (a
 /// file of 65,536 bytes has at most 21,845 records), six for the count (at most
-/// 262,144), twelve for the answers, five blanks and the newline.
+/// 262,144), twelve for the answers (a refusal number of two digits comes with 0
+/// values moved), five blanks and the newline.
 const ROOM: usize = 32;
 
 pub(crate) struct Line<'a> {

@@ -42,6 +42,12 @@ pub struct Record {
     pub levels: [u16; 20],
 }
 
+/// The largest numbers of the settings. "Power-up gives a fitted code d (0 to
+/// 15), range, filter and kit codes (0 to 2) and a firmware number (0 to 4095)."
+pub(crate) const LARGEST_FITTED: u32 = 15;
+pub(crate) const LARGEST_OPTION: u32 = 2; // range, filter and kit
+pub(crate) const LARGEST_FIRMWARE: u32 = 4095;
+
 /// "The depth is 8·2^d values." Only asked for a d of at most 15.
 pub(crate) fn depth_of(fitted: u32) -> u32 {
     8 << fitted
@@ -90,14 +96,14 @@ impl Record {
         }
     }
 
-    /// "Power-up gives a fitted code d (0 to 15), range, filter and kit codes
-    /// (0 to 2) and a firmware number (0 to 4095)."
-    pub(crate) fn settings_in_range(&self) -> bool {
-        self.fitted <= 15
-            && self.range <= 2
-            && self.filter <= 2
-            && self.kit <= 2
-            && self.firmware <= 4095
+    /// "settings in range": all five of them. Which one is bad is said of a
+    /// power-up only.
+    fn settings_in_range(&self) -> bool {
+        self.fitted <= LARGEST_FITTED
+            && self.range <= LARGEST_OPTION
+            && self.filter <= LARGEST_OPTION
+            && self.kit <= LARGEST_OPTION
+            && self.firmware <= LARGEST_FIRMWARE
     }
 
     /// "A record is sound when: ..." The list below is in 01's order. It is gone

@@ -1,13 +1,14 @@
 //! The refusal numbers, those of events each "given exactly when" the table
-//! says, and the order of these. From 20 on they are those of request 2026-01.
+//! says, and the order of these. 1 and 14 to 17, the power-up settings, are as
+//! request 2026-02 has them; from 20 on they are those of request 2026-01.
 
 use crate::event::Event;
-use crate::record::{depth_of, Record};
+use crate::record::{depth_of, Record, LARGEST_FIRMWARE, LARGEST_FITTED, LARGEST_OPTION};
 
 /// "0 | done"
 pub(crate) const DONE: u32 = 0;
-/// "1 | power-up setting out of range"
-pub(crate) const SETTING: u32 = 1;
+/// "1 now means the fitted code only"
+pub(crate) const FITTED: u32 = 1;
 /// "2 | sample memory shorter than the depth"
 pub(crate) const MEMORY: u32 = 2;
 /// "3 | record not sound"
@@ -32,6 +33,14 @@ pub(crate) const CUT: u32 = 11;
 pub(crate) const LENGTH: u32 = 12;
 /// "13 | unknown record kind"; the writer's "13 an unknown kind"
 pub(crate) const KIND: u32 = 13;
+/// "14 range"
+pub(crate) const RANGE: u32 = 14;
+/// "15 filter"
+pub(crate) const FILTER: u32 = 15;
+/// "16 kit"
+pub(crate) const KIT: u32 = 16;
+/// "17 firmware"
+pub(crate) const FIRMWARE: u32 = 17;
 /// "20 a place past the output's end"
 pub(crate) const PLACE: u32 = 20;
 /// "21 when the whole session doesn't fit"
@@ -45,7 +54,7 @@ pub(crate) const ROWS: u32 = 32;
 #[inline]
 pub(crate) fn refusal(record: &Record, length: usize, event: &Event) -> u32 {
     match *event {
-        // "Order: power-up 1, 2 (any old record is accepted)"
+        // "checked in that order, then 2"; "(any old record is accepted)"
         Event::PowerUp {
             fitted,
             range,
@@ -53,16 +62,9 @@ pub(crate) fn refusal(record: &Record, length: usize, event: &Event) -> u32 {
             kit,
             firmware,
         } => {
-            let settings = Record {
-                fitted,
-                range,
-                filter,
-                kit,
-                firmware,
-                ..Record::unpowered()
-            };
-            if !settings.settings_in_range() {
-                return SETTING;
+            let setting = first_bad_setting(fitted, range, filter, kit, firmware);
+            if setting != DONE {
+                return setting;
             }
             if length < depth_of(fitted) as usize {
                 return MEMORY;
@@ -123,6 +125,28 @@ pub(crate) fn refusal(record: &Record, length: usize, event: &Event) -> u32 {
             DONE
         }
     }
+}
+
+/// The number of the first bad power-up setting, or DONE. "1 now means the
+/// fitted code only; 14 range, 15 filter, 16 kit, 17 firmware; checked in that
+/// order"
+fn first_bad_setting(fitted: u32, range: u32, filter: u32, kit: u32, firmware: u32) -> u32 {
+    if fitted > LARGEST_FITTED {
+        return FITTED;
+    }
+    if range > LARGEST_OPTION {
+        return RANGE;
+    }
+    if filter > LARGEST_OPTION {
+        return FILTER;
+    }
+    if kit > LARGEST_OPTION {
+        return KIT;
+    }
+    if firmware > LARGEST_FIRMWARE {
+        return FIRMWARE;
+    }
+    DONE
 }
 
 /// "3, 2": first the record, then the memory.

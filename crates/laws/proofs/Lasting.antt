@@ -5,29 +5,29 @@ use mathlib.Core.Bool.{Bool, true, false, not, _&&_, cond, false≢true}
 use mathlib.Core.List.{List, [], _∷_, _++_}
 use native.Mathlib.Nat.{mod-lt}
 use native.Mathlib.Omega.{arith}
-use borrow.Author.Tests.{ltb-false, leb-true, not-false}
-use lib.Dec.{leb}
 use lib.Pow.{pow-pos}
 use Rattle.laws.specs.Types.{Settings, Options, Control, Mode, Calibration, Clock, Burst, Load, Lost, Outputs, Core, Event, powerUp, write, read, signal, Signal, tick, outside, trigger, passed, failed, settled}
 use Rattle.rules.specs.Bits.{bit, active, activeFrom, headOr}
-use Rattle.rules.specs.Record.{State, depthOf, channels, optionsInRange, sound, stored}
+use Rattle.rules.specs.Record.{State, channels, sound, stored}
 use Rattle.rules.specs.Parts.{noBurst, noLoad, remade, withClock, withLost}
 use Rattle.rules.specs.Clocks.{Play, closed, nextChannel, moving, cursorAfter, burstAfter, loadAfter, moves, clock, tickAccepted, clockAccepted, triggerAccepted, onTick, onOutside, onTrigger}
 use Rattle.rules.specs.Writes.{initial, burstOf, cursorOf, calibrationOf, writeControl, writeMask, writeRate, writeAdjust, loadKept, loadAsked, bufferOf, tried, writeBuffer, writeData, onWrite}
 use Rattle.rules.specs.Play.{optionsOf, calibrationEnds, settles, onSignal, play}
 use Rattle.rules.specs.Place.{place}
 use Rattle.rules.specs.Size.{sizeAfter}
-use Rattle.rules.specs.Refusals.{firstOf, inRange, tooShort, standing, rows, refusal}
+use Rattle.rules.specs.Refusals.{refusal}
 use Rattle.rules.specs.Step.{refused, boardBefore, done}
 use Rattle.rules.specs.Laws.Soundness.{Stands}
 use Rattle.laws.specs.Lasting.{Stands-kept, Stands-given}
 use Rattle.rules.specs.Laws.Refusals.{Ordinary}
-use Rattle.rules.proofs.Choice.{cond-zero, cases, either, and-both}
+use Rattle.rules.proofs.Choice.{cases, either, and-both}
 use Rattle.rules.proofs.Sizes.{depth-pos}
 use Rattle.laws.proofs.Offsets.{write-cases}
 use Rattle.rules.proofs.Steps.{step-done, step-cases, refusal-answered}
 use Rattle.laws.proofs.Kept.{kept, stands-fit, fit-stands}
-use Rattle.rules.proofs.Soundness.{SoundOptions, SoundOutputs, SoundLoad, SoundBurst, SoundCore, options-to, sound-core}
+use Rattle.rules.proofs.Soundness.{SoundOptions, SoundOutputs, SoundLoad, SoundBurst, SoundCore, sound-core}
+use Rattle.rules.proofs.Refusals.{power-up-accepted}
+use Rattle.rules.proofs.Initial.{power-up-options}
 
 -- ---- Clocks keep it
 
@@ -293,15 +293,13 @@ done-stands s e o h =
 -- ---- A power-up gives it
 
 pub up-stands : (s : State) (x : Settings) → refusal s (powerUp x) ≡ 0 → Stands ((done s (powerUp x)) .state)
-unfolding refusal rows standing firstOf inRange done boardBefore play place sizeAfter
+unfolding done boardBefore play place sizeAfter
 up-stands s x h =
-    let a = cond-zero (not (inRange x)) 0 _ h in
-    let b = cond-zero (tooShort (s .memory) (depthOf (x .fitted))) 1 0 (a .1) in
-    let t = and-both (leb (x .fitted) 15) (optionsInRange (optionsOf x)) (not-false (inRange x) (a .0)) in
-    fit-stands ((done s (powerUp x)) .state) (initial-sound (optionsOf x) (options-to (optionsOf x) (t .1)))
+    let a = power-up-accepted s x h in
+    fit-stands ((done s (powerUp x)) .state) (initial-sound (optionsOf x) (power-up-options s x h))
     (record {
-      good = record { first-lt = depth-pos (x .fitted); count-le = omega arith; enough = ltb-false _ _ (b .0) };
-      fitted = leb-true _ _ (t .0);
+      good = record { first-lt = depth-pos (x .fitted); count-le = omega arith; enough = a .1 };
+      fitted = a .0 .fitted;
       code = omega arith;
     })
 

@@ -6,7 +6,7 @@ ghost use mathlib.Core.List.{List};
 ghost use lib.ListN.{length};
 ghost use Rattle.rules.specs.Record.{depth, sound, stateOf};
 ghost use Rattle.rules.specs.Registers.{isOffset};
-ghost use Rattle.rules.specs.Refusals.{inRange, endsNothing, tooShort, refusal};
+ghost use Rattle.rules.specs.Refusals.{settingRefusal, endsNothing, tooShort, refusal};
 ghost use lib.Dec.{eqb};
 ghost use Rattle.rules.specs.declared.Board.{Board};
 ghost use Rattle.rules.specs.declared.Event.the-variants.{PowerUp as powerUp};
@@ -20,12 +20,26 @@ use rules::Settings;
 use rules::Signal;
 use soundness::is_sound;
 
-// "power-up setting out of range" is what this denies. The nesting and the last `true` are those of `all` over the rules' list.
-pub(crate) fn in_range(x: Settings) -> bool
-    ensures { λ r. ⌜ r ≡ inRange x ⌝ }
+// 02: "1 now means the fitted code only; 14 range, 15 filter, 16 kit, 17 firmware; checked in that order".
+pub(crate) fn setting_refusal(x: Settings) -> u32
+    ensures { λ r. ⌜ r ≡ settingRefusal x ⌝ }
 {
-    (x.fitted <= 15)
-        & ((x.range <= 2) & ((x.filter <= 2) & ((x.kit <= 2) & ((x.firmware <= 4095) & true))))
+    if x.fitted > 15 {
+        return 1;
+    }
+    if x.range > 2 {
+        return 14;
+    }
+    if x.filter > 2 {
+        return 15;
+    }
+    if x.kit > 2 {
+        return 16;
+    }
+    if x.firmware > 4095 {
+        return 17;
+    }
+    0
 }
 
 // "offset other than 00, 04, 08, 0C, 10, 14, 18, 1C (hex)" is what this denies. Nested as `some` over the rules' list is.
@@ -52,12 +66,13 @@ pub(crate) fn ends_nothing(c: Core, x: Signal) -> bool
     }
 }
 
-// 01: "power-up 1, 2"
+// 02: "then 2". The depth is reckoned only of a fitted code in range.
 pub(crate) fn power_up_refusal(x: Settings, len: usize) -> u32
     ensures { λ r. ⌜ ((b : Board) (m : List ℕ) → length m ≡ len → r ≡ refusal (stateOf b m) (powerUp x)) ⌝ }
 {
-    if !in_range(x) {
-        return 1;
+    let n = setting_refusal(x);
+    if n != 0 {
+        return n;
     }
     if len < (8u32 << x.fitted) as usize {
         return 2;

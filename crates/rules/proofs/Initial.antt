@@ -2,14 +2,13 @@
 --   fresh o d m    the state that they leave, with the options o and the fitted code d over the memory m
 use Prim.Native.Nat.{ℕ, _+_, _*_, zero-le}
 use mathlib.Core.Path.{_≡_, refl, _∙_}
-use mathlib.Core.Bool.{true, false, not}
+use mathlib.Core.Bool.{true, false}
 use mathlib.Core.List.{List, append-assoc}
 use native.Mathlib.Omega.{arith}
-use lib.Dec.{leb}
 use borrow.Author.Tests.{lt-ltb, le-ltb, lt-leb}
 use Rattle.rules.specs.Types.{Settings, Options, Size, Board, powerUp, write}
 use Rattle.rules.specs.Bits.{bit, bitsOf, flag, number}
-use Rattle.rules.specs.Record.{State, activeSize, channels, values, stored, optionsInRange}
+use Rattle.rules.specs.Record.{State, activeSize, channels, values, stored}
 use Rattle.rules.specs.Flags.{isLow, isHigh, isFull}
 use Rattle.rules.specs.Registers.{controlBits, maskBits, rateBits, bufferBits, optionBits, adjustBits, registers, readFrom, readAt}
 use Rattle.rules.specs.Writes.{initial, initialised, onWrite}
@@ -17,14 +16,13 @@ use Rattle.rules.specs.Play.{optionsOf, play}
 use Rattle.rules.specs.Place.{place}
 use Rattle.rules.specs.Size.{initialises, codeOf, sizeAfter}
 use Rattle.rules.specs.Interrupt.{requestAfter}
-use Rattle.rules.specs.Refusals.{firstOf, inRange, standing, rows, refusal}
+use Rattle.rules.specs.Refusals.{refusal}
 use Rattle.rules.specs.Step.{step}
 use Rattle.rules.specs.Laws.Initial.{Fresh, Power-up-fresh, Initialise-fresh, fields, Unpowered-zero}
 use Rattle.rules.proofs.Open.{rules-open}
-use Rattle.rules.proofs.Choice.{cond-zero, and-both, not-not}
 use Rattle.rules.proofs.Sizes.{size-pos}
-use Rattle.rules.proofs.Soundness.{SoundOptions, options-to, sound-core}
-use Rattle.rules.proofs.Refusals.{refusal-stands}
+use Rattle.rules.proofs.Soundness.{SoundOptions, sound-core}
+use Rattle.rules.proofs.Refusals.{power-up-accepted, refusal-stands}
 use Rattle.rules.proofs.Readings.{number-bitsOf, number-field}
 use Rattle.rules.proofs.Played.{step-play}
 
@@ -92,12 +90,10 @@ fresh-fresh o d m h =
 
 -- ---- Power-up
 
-power-up-options : (s : State) (x : Settings) → refusal s (powerUp x) ≡ 0 → SoundOptions (optionsOf x)
-unfolding refusal rows standing firstOf inRange
+pub power-up-options : (s : State) (x : Settings) → refusal s (powerUp x) ≡ 0 → SoundOptions (optionsOf x)
 power-up-options s x h =
-    let a = cond-zero (not (inRange x)) 0 _ h in
-    let t = and-both (leb (x .fitted) 15) (optionsInRange (optionsOf x)) (not-not (inRange x) (a .0)) in
-    options-to (optionsOf x) (t .1)
+    let r = (power-up-accepted s x h) .0 in
+    record { range = r .range; filter = r .filter; kit = r .kit; firmware = r .firmware }
 
 power-up-state : (s : State) (x : Settings) → refusal s (powerUp x) ≡ 0 → (step s (powerUp x)) .state ≡ fresh (optionsOf x) (x .fitted) (s .memory)
 unfolding fresh play place sizeAfter requestAfter initialises

@@ -4,34 +4,32 @@ use mathlib.Core.Path.{_≡_, refl, sym, _∙_, subst}
 use mathlib.Core.Logic.{_≢_, _⊎_, inl, inr}
 use mathlib.Core.Bool.{true, false, not, _||_, cond, true≢false, false≢true}
 use native.Mathlib.Omega.{arith}
-use borrow.Author.Tests.{ltb-true, ltb-false, leb-true, le-leb, lt-ltb, le-ltb, eqb-true, eqb-false, ne-eqb}
+use borrow.Author.Tests.{ltb-true, ltb-false, leb-true, leb-false, le-leb, lt-leb, lt-ltb, le-ltb, eqb-true, eqb-false, ne-eqb}
 use lib.Dec.{leb, ltb, eqb}
 use lib.ListN.{length}
 use Rattle.rules.specs.Types.{Settings, Event, powerUp, write, read, signal, Signal, tick, outside, trigger, passed, failed, settled}
 use Rattle.rules.specs.Bits.{some}
-use Rattle.rules.specs.Record.{State, depthOf, depth, optionsInRange, sound}
+use Rattle.rules.specs.Record.{State, depthOf, depth, sound}
 use Rattle.rules.specs.Registers.{registers, isOffset}
-use Rattle.rules.specs.Play.{optionsOf}
-use Rattle.rules.specs.Refusals.{firstOf, inRange, tooShort, isReadOnly, endsNothing, standing, rows, refusal}
+use Rattle.rules.specs.Refusals.{firstOf, settingRows, settingRefusal, tooShort, isReadOnly, endsNothing, standing, rows, refusal}
 use Rattle.rules.specs.Laws.Soundness.{Sound, Stands}
-use Rattle.rules.specs.Laws.Refusals.{InRange, Offset, Ordinary, Heard, aTick, aClock, aTrigger, EndsCalibration, aPass, aFailure, Given, badSetting, shortForPowerUp, short, unsound, noSuchWrite, noSuchRead, readOnly, calibrating, noCalibration, notSettling, poweredUp, written, readOut, heard, calibrationEnded, hasSettled, Refusal-exactly}
+use Rattle.rules.specs.Laws.Refusals.{InRange, Offset, Ordinary, Heard, aTick, aClock, aTrigger, EndsCalibration, aPass, aFailure, Given, badFitted, badRange, badFilter, badKit, badFirmware, shortForPowerUp, short, unsound, noSuchWrite, noSuchRead, readOnly, calibrating, noCalibration, notSettling, poweredUp, written, readOut, heard, calibrationEnded, hasSettled, Refusal-exactly}
 use Rattle.rules.proofs.Choice.{cond-zero, cases, and-both, both-and, or-neither, or-cases, not-true, not-both, not-not, upTo, upTo-at}
-use Rattle.rules.proofs.Soundness.{options-to, options-from, sound-exactly}
+use Rattle.rules.proofs.Own.{power-up-own}
+use Rattle.rules.proofs.Soundness.{sound-exactly}
 
 -- ---- The tests are the words
 
-range-to : (x : Settings) → inRange x ≡ true → InRange x
-unfolding inRange
-range-to x h =
-    let t = and-both (leb (x .fitted) 15) (optionsInRange (optionsOf x)) h in
-    let o = options-to (optionsOf x) (t .1) in
-    record { fitted = leb-true _ _ (t .0); range = o .range; filter = o .filter; kit = o .kit; firmware = o .firmware }
+-- a setting within its bound, and one above it
+within : (n bound : ℕ) → not (leb n bound) ≡ false → n ≤ bound
+within n bound h = leb-true n bound (not-not (leb n bound) h)
 
-range-from : (x : Settings) → InRange x → inRange x ≡ true
-unfolding inRange
-range-from x h =
-    both-and _ _ (le-leb _ _ (h .fitted))
-    (options-from (optionsOf x) (record { range = h .range; filter = h .filter; kit = h .kit; firmware = h .firmware }))
+above : (n bound : ℕ) → not (leb n bound) ≡ true → bound < n
+above n bound h = leb-false n bound (not-true (leb n bound) (not-both (leb n bound) h))
+
+none-bad : (x : Settings) → InRange x → settingRefusal x ≡ 0
+unfolding settingRefusal settingRows firstOf
+none-bad x h = rw (le-leb _ _ (h .fitted), le-leb _ _ (h .range), le-leb _ _ (h .filter), le-leb _ _ (h .kit), le-leb _ _ (h .firmware))
 
 offset-at : (o k : ℕ) → k % 4 ≡ 0 → k ≤ 0x1C → eqb o k ≡ true → Offset o
 offset-at o k a l h = let e = eqb-true o k h in record { aligned = rw e a; low = rw e l }
@@ -104,12 +102,20 @@ module _ (s : State) where
       (λ h. hasSettled st (not-not _ h))
 
   given : (e : Event) → Given s e (refusal s e)
-  unfolding refusal rows standing firstOf
+  unfolding refusal rows settingRows standing firstOf
   given (powerUp x) =
-      cases (Given s (powerUp x)) (not (inRange x)) (λ h. badSetting (λ k. not-both (inRange x) h (range-from x k))) (λ h.
-      let r = range-to x (not-not (inRange x) h) in
-      cases (Given s (powerUp x)) (ltb (length (s .memory)) (depthOf (x .fitted))) (λ l. shortForPowerUp r (ltb-true _ _ l)) (λ l.
-      poweredUp r (ltb-false _ _ l)))
+      cases (Given s (powerUp x)) (not (leb (x .fitted) 15)) (λ h. badFitted (above _ _ h)) (λ h.
+      let d = within (x .fitted) 15 h in
+      cases (Given s (powerUp x)) (not (leb (x .range) 2)) (λ h. badRange d (above _ _ h)) (λ h.
+      let r = within (x .range) 2 h in
+      cases (Given s (powerUp x)) (not (leb (x .filter) 2)) (λ h. badFilter d r (above _ _ h)) (λ h.
+      let f = within (x .filter) 2 h in
+      cases (Given s (powerUp x)) (not (leb (x .kit) 2)) (λ h. badKit d r f (above _ _ h)) (λ h.
+      let k = within (x .kit) 2 h in
+      cases (Given s (powerUp x)) (not (leb (x .firmware) 4095)) (λ h. badFirmware d r f k (above _ _ h)) (λ h.
+      let good : InRange x = record { fitted = d; range = r; filter = f; kit = k; firmware = within (x .firmware) 4095 h } in
+      cases (Given s (powerUp x)) (ltb (length (s .memory)) (depthOf (x .fitted))) (λ l. shortForPowerUp good (ltb-true _ _ l)) (λ l.
+      poweredUp good (ltb-false _ _ l)))))))
   given (write o v) = stands-to (write o v) _ tt (write-to o v)
   given (read o) =
       stands-to (read o) _ tt (λ st.
@@ -165,9 +171,13 @@ module _ (s : State) where
   ends-is _ aFailure = refl
 
   number : {e : Event} {n : ℕ} → Given s e n → refusal s e ≡ n
-  unfolding refusal rows standing firstOf
-  number (badSetting {x} h) = rw (not-true (inRange x) (λ k. h (range-to x k)))
-  number (shortForPowerUp {x} h l) = rw (range-from x h, lt-ltb _ _ l)
+  unfolding refusal rows settingRows standing firstOf
+  number (badFitted {x} h) = rw (lt-leb _ _ h)
+  number (badRange {x} d h) = rw (le-leb _ _ d, lt-leb _ _ h)
+  number (badFilter {x} d r h) = rw (le-leb _ _ d, le-leb _ _ r, lt-leb _ _ h)
+  number (badKit {x} d r f h) = rw (le-leb _ _ d, le-leb _ _ r, le-leb _ _ f, lt-leb _ _ h)
+  number (badFirmware {x} d r f k h) = rw (le-leb _ _ d, le-leb _ _ r, le-leb _ _ f, le-leb _ _ k, lt-leb _ _ h)
+  number (shortForPowerUp {x} h l) = power-up-own s x ∙ rw (none-bad x h, lt-ltb _ _ l)
   number (short {e} o h l) = short-any e o h l
   number (unsound {e} o h) = unsound-any e o h
   number (noSuchWrite {o} {v} st h) = stands-own st _ ∙ rw (offset-none o h)
@@ -176,7 +186,7 @@ module _ (s : State) where
   number (calibrating {o} {v} st h m m′ c) = stands-own st _ ∙ rw (offset-from o h, open-offset o m m′, c)
   number (noCalibration {x} w st h) = stands-own st _ ∙ rw (ends-is x w, not-true _ h)
   number (notSettling st h) = unfold endsNothing in stands-own st _ ∙ rw h
-  number (poweredUp {x} h l) = rw (range-from x h, le-ltb _ _ l)
+  number (poweredUp {x} h l) = power-up-own s x ∙ rw (none-bad x h, le-ltb _ _ l)
   number (written {o} {v} st h m m′ c) = stands-own st _ ∙ rw (offset-from o h, open-offset o m m′, not-true _ c)
   number (readOut {o} st h) = stands-own st _ ∙ rw (offset-from o h)
   number (heard {x} w st) = stands-own st _ ∙ rw (heard-none x w)
@@ -186,7 +196,15 @@ module _ (s : State) where
 pub refusal-exactly : Refusal-exactly
 refusal-exactly s e n = (λ h. subst (Given s e) h (given s e), number s)
 
--- ---- An event that is done found a sound record over enough memory
+-- ---- A power-up that is done had its settings in range, and a memory of at least the depth
+
+accepted : {s : State} {x : Settings} → Given s (powerUp x) 0 → InRange x × (depthOf (x .fitted) ≤ length (s .memory))
+accepted (poweredUp h l) = (h, l)
+
+pub power-up-accepted : (s : State) (x : Settings) → refusal s (powerUp x) ≡ 0 → InRange x × (depthOf (x .fitted) ≤ length (s .memory))
+power-up-accepted s x h = accepted ((refusal-exactly s (powerUp x) 0) .0 h)
+
+-- ---- Any other event that is done found a sound record over enough memory
 
 zero-stands : (s : State) (n : ℕ) → cond (not (sound (s .board))) 3 (cond (tooShort (s .memory) (depth (s .board))) 2 n) ≡ 0 → Stands s
 zero-stands s n h =

@@ -1,5 +1,6 @@
--- Sessions beside 01's bench: a row for each rule that neither its cases nor a law of this crate reach (`Examples`; its proof is in
--- proofs/Bench.antt).
+-- Sessions beside 01's bench: a row for each rule that neither its cases nor a law of this crate reach, and rows for what a request of
+-- 02 changed (`Examples`; its proof is in proofs/Bench.antt).
+use Prim.Native.Nat.{ℕ}
 use mathlib.Core.Bool.{true}
 use mathlib.Core.List.{List, [], _∷_}
 use lib.ListN.{replicate}
@@ -10,9 +11,13 @@ use Rattle.rules.specs.Bench.{on, bcr, mask, bor, load, bcr?, bor?, clk,
 
 -- ---- Events and looks
 
+-- power-up with a fitted code, range, filter, kit and firmware
+abbrev pub up : ℕ → ℕ → ℕ → ℕ → ℕ → Event
+up d range filter kit firmware = powerUp (record { fitted = d; range = range; filter = filter; kit = kit; firmware = firmware })
+
 -- power-up with a depth of 8 values
 abbrev pub shallow : Event
-shallow = powerUp (record { fitted = 0; range = 0; filter = 0; kit = 2; firmware = 0 })
+shallow = up 0 0 0 2 0
 
 -- at the end: the sixteen entries of the memory
 unfoldable pub entries : Look
@@ -31,6 +36,10 @@ readings es = seen isRead (λ o. o .answer .register) bench es
 -- the values moved by each event
 unfoldable pub allMoved : Look
 allMoved es = seen (λ e. true) (λ o. o .answer .moved) bench es
+
+-- the refusal of each event
+unfoldable pub refusals : Look
+refusals es = seen (λ e. true) (λ o. o .answer .refusal) bench es
 
 -- ---- The table
 
@@ -80,7 +89,7 @@ examples =
     }
     -- "10h is firmware in D11..0, range D17..16, filter D19..18, kit D21..20", with all of them different
     ∷ record {
-      session = powerUp (record { fitted = 1; range = 1; filter = 2; kit = 0; firmware = 0x123 }) ∷ read 0x10 ∷ [];
+      session = up 1 1 2 0 0x123 ∷ read 0x10 ∷ [];
       sights = readings shows (0x90123 ∷ []) ∷ [];
     }
     -- the software clock sees the bits just written (DECISIONS 15): they enable it, and they disable it
@@ -108,6 +117,19 @@ examples =
       session = on ∷ bor 0x0 ∷ load 1 ∷ load 2 ∷ load 3 ∷ load 4 ∷ load 5 ∷ load 6 ∷ load 7 ∷ load 8 ∷ load 9
           ∷ bor 0x10120 ∷ load 10 ∷ clk ∷ bor? ∷ bor 0x30020 ∷ clk ∷ load 11 ∷ bor? ∷ load 12 ∷ bor? ∷ [];
       sights = bitRead 16 shows (1 ∷ 1 ∷ 1 ∷ []) ∷ bitRead 17 shows (1 ∷ 1 ∷ 1 ∷ []) ∷ [];
+    }
+    -- 02, 2026-02: "1 now means the fitted code only; 14 range, 15 filter, 16 kit, 17 firmware": each setting bad alone, at the first
+    -- number out of its range, and the record stays as it was, unpowered
+    ∷ record { session = up 16 0 0 0 0 ∷ bcr? ∷ []; sights = refusals shows (1 ∷ 3 ∷ []) ∷ [] }
+    ∷ record { session = up 0 3 0 0 0 ∷ bcr? ∷ []; sights = refusals shows (14 ∷ 3 ∷ []) ∷ [] }
+    ∷ record { session = up 0 0 3 0 0 ∷ bcr? ∷ []; sights = refusals shows (15 ∷ 3 ∷ []) ∷ [] }
+    ∷ record { session = up 0 0 0 3 0 ∷ bcr? ∷ []; sights = refusals shows (16 ∷ 3 ∷ []) ∷ [] }
+    ∷ record { session = up 0 0 0 0 4096 ∷ bcr? ∷ []; sights = refusals shows (17 ∷ 3 ∷ []) ∷ [] }
+    -- "checked in that order, then 2": all five bad, and put right one after the other, the depth last
+    ∷ record {
+      session = up 16 3 3 3 4096 ∷ up 15 3 3 3 4096 ∷ up 15 2 3 3 4096 ∷ up 15 2 2 3 4096 ∷ up 15 2 2 2 4096 ∷ up 15 2 2 2 4095
+          ∷ up 1 2 2 2 4095 ∷ bcr? ∷ [];
+      sights = refusals shows (1 ∷ 14 ∷ 15 ∷ 16 ∷ 17 ∷ 2 ∷ 0 ∷ 0 ∷ []) ∷ [];
     }
     ∷ []
 

@@ -56,8 +56,17 @@ stored s = values (depth (s .board)) (s .board .ring .first) (s .board .ring .co
 -- ---- Soundness
 
 -- 01: "a fitted code d (0 to 15), range, filter and kit codes (0 to 2) and a firmware number (0 to 4095)"
+abbrev pub fittedInRange : ℕ → Bool
+fittedInRange d = leb d 15
+
+abbrev pub codeInRange : ℕ → Bool
+codeInRange n = leb n 2
+
+abbrev pub firmwareInRange : ℕ → Bool
+firmwareInRange n = leb n 4095
+
 unfoldable pub optionsInRange : Options → Bool
-optionsInRange o = all (leb (o .range) 2 ∷ leb (o .filter) 2 ∷ leb (o .kit) 2 ∷ leb (o .firmware) 4095 ∷ [])
+optionsInRange o = all (codeInRange (o .range) ∷ codeInRange (o .filter) ∷ codeInRange (o .kit) ∷ firmwareInRange (o .firmware) ∷ [])
 
 -- 01: "A record is sound when: .." The clauses that speak of sizes and places are in soundRing.
 unfoldable pub soundCore : Core → Bool
@@ -88,7 +97,7 @@ soundCore c =
 unfoldable pub soundRing : Size → Ring → Bool
 soundRing s r =
     all (
-    leb (s .fitted) 15
+    fittedInRange (s .fitted)
     ∷ leb (s .code) 15
     ∷ ltb (r .first) (depthOf (s .fitted))
     ∷ leb (r .count) (depthOf (s .fitted))

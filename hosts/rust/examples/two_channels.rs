@@ -1,21 +1,20 @@
-//! Two samples to two channels, the second with the end-of-frame mark, and a write that the board refuses; then the rate,
-//! and the same events as a session file.
+//! Two samples to two channels, the second with the end-of-frame mark, with a power-up and a write that the board refuses;
+//! then the rate, and the same events as a session file.
 
 use nergutsai::{event, rate, Event, Record, Refusal};
 
 fn main() -> Result<(), Refusal> {
+    let power_up = |range| Event::PowerUp {
+        fitted: 0,
+        range,
+        filter: 0,
+        kit: 0,
+        firmware: 0x123,
+    };
     let write = |offset, value| Event::Write { offset, value };
     let session = [
-        (
-            "power up, 8 values deep, 6 channels",
-            Event::PowerUp {
-                fitted: 0,
-                range: 0,
-                filter: 0,
-                kit: 0,
-                firmware: 0x123,
-            },
-        ),
+        ("power up with range code 3", power_up(3)),
+        ("power up, 8 values deep, 6 channels", power_up(0)),
         ("channels 0 and 1", write(0x04, 0x3)),
         ("load 1234h", write(0x18, 0x01234)),
         ("load ABCDh, end of frame", write(0x18, 0x1ABCD)),
@@ -33,6 +32,9 @@ fn main() -> Result<(), Refusal> {
             "{what:<36} refusal {}  register {:08X}  moved {}  fate {}",
             answer.refusal, answer.register, answer.moved, answer.fate
         );
+        if let Some(refusal) = answer.why() {
+            println!("    {refusal}");
+        }
     }
     let figures = rate(&board);
     println!(
@@ -49,12 +51,12 @@ fn main() -> Result<(), Refusal> {
     if let Err(refusal) = nergutsai::write(&rows, &mut file, 0) {
         println!(
             "{:<36} refusal {}  {refusal}",
-            "all nine as a session file",
+            "all ten as a session file",
             refusal.number()
         );
     }
     let end = nergutsai::write(&rows[..rows.len() - 6], &mut file, 0)?;
-    println!("{:<36} refusal 0  {end} bytes", "the first eight");
+    println!("{:<36} refusal 0  {end} bytes", "the first nine");
 
     // The listing of that file, and of the same without its last byte.
     for file in [&file[..end], &file[..end - 1]] {

@@ -93,7 +93,7 @@ impl Event {
 /// What the board answers to an event.
 #[derive(Clone, Copy, Debug, PartialEq, Eq)]
 pub struct Answer {
-    /// 0 accepted; else the record and the memory are as they were.
+    /// 0 accepted; else the record and the memory are as they were, and `why` names the number.
     pub refusal: u32,
     /// 0 unless a register was read.
     pub register: u32,
@@ -101,6 +101,14 @@ pub struct Answer {
     pub moved: u32,
     /// Of a load: 1 stored, 2 lost to a full buffer, 3 lost to a closed one.
     pub fate: u32,
+}
+
+impl Answer {
+    /// Why the event was refused; none where it was done.
+    #[must_use]
+    pub fn why(&self) -> Option<Refusal> {
+        Refusal::of(self.refusal)
+    }
 }
 
 /// What a rate question answers.

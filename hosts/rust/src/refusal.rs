@@ -1,12 +1,37 @@
-//! Why a session was not written.
+//! Why an event was refused, or a session not written.
 
 use std::error::Error;
 use std::fmt;
 
-/// Why `write` wrote nothing. Where several things are wrong, rows that are not whole events are told first; then the
-/// first bad event decides, its kind before its fields; then the place; then the room.
+/// Why an event was refused, or why `write` wrote nothing.
+///
+/// A power-up names its first bad setting, in the order of this list. Where several things are wrong with another event,
+/// the lowest number is told, but 3 before 2. Of a session, rows that are not whole events are told first; then the first
+/// bad event decides, its kind before its fields; then the place; then the room.
 #[derive(Clone, Copy, Debug, PartialEq, Eq)]
 pub enum Refusal {
+    /// Power-up: the fitted code is not 0 to 15.
+    BadFitted,
+    /// Power-up: the range code is not 0 to 2.
+    BadRange,
+    /// Power-up: the filter code is not 0 to 2.
+    BadFilter,
+    /// Power-up: the kit code is not 0 to 2.
+    BadKit,
+    /// Power-up: the firmware number is not 0 to 4095.
+    BadFirmware,
+    /// The sample memory is shorter than the depth.
+    MemoryTooShort,
+    /// The record is damaged, or the board is not powered up.
+    NotSound,
+    /// There is no register at the offset.
+    NoRegister,
+    /// 10h and 14h cannot be written.
+    ReadOnly,
+    /// No write while the board is calibrating.
+    Busy,
+    /// No calibration runs, or the clock is not settling.
+    NothingToEnd,
     /// The rows are not a multiple of six numbers.
     NotWholeEvents,
     /// An event begins with a number that is no kind.
@@ -20,7 +45,18 @@ pub enum Refusal {
 }
 
 impl Refusal {
-    const ALL: [Refusal; 5] = [
+    const ALL: [Refusal; 16] = [
+        Refusal::BadFitted,
+        Refusal::BadRange,
+        Refusal::BadFilter,
+        Refusal::BadKit,
+        Refusal::BadFirmware,
+        Refusal::MemoryTooShort,
+        Refusal::NotSound,
+        Refusal::NoRegister,
+        Refusal::ReadOnly,
+        Refusal::Busy,
+        Refusal::NothingToEnd,
         Refusal::NotWholeEvents,
         Refusal::UnknownKind,
         Refusal::FieldTooLarge,
@@ -28,10 +64,21 @@ impl Refusal {
         Refusal::NoRoom,
     ];
 
-    /// The refusal number, as `write_call` answers it.
+    /// The refusal number, as an answer has it, or `write_call` answers it.
     #[must_use]
     pub fn number(self) -> u32 {
         match self {
+            Refusal::BadFitted => 1,
+            Refusal::BadRange => 14,
+            Refusal::BadFilter => 15,
+            Refusal::BadKit => 16,
+            Refusal::BadFirmware => 17,
+            Refusal::MemoryTooShort => 2,
+            Refusal::NotSound => 3,
+            Refusal::NoRegister => 4,
+            Refusal::ReadOnly => 5,
+            Refusal::Busy => 6,
+            Refusal::NothingToEnd => 7,
             Refusal::NotWholeEvents => 32,
             Refusal::UnknownKind => 13,
             Refusal::FieldTooLarge => 30,
@@ -50,6 +97,25 @@ impl Refusal {
 impl fmt::Display for Refusal {
     fn fmt(&self, text: &mut fmt::Formatter) -> fmt::Result {
         text.write_str(match self {
+            Refusal::BadFitted => "the fitted code is out of range: it is 0 to 15",
+            Refusal::BadRange => "the range code is out of range: it is 0 to 2",
+            Refusal::BadFilter => "the filter code is out of range: it is 0 to 2",
+            Refusal::BadKit => "the kit code is out of range: it is 0 to 2",
+            Refusal::BadFirmware => "the firmware number is out of range: it is 0 to 4095",
+            Refusal::MemoryTooShort => {
+                "the sample memory is shorter than the depth: lend more, or fit a lower code"
+            }
+            Refusal::NotSound => {
+                "the record is damaged, or the board is not powered up: begin with a power-up"
+            }
+            Refusal::NoRegister => {
+                "there is no register at this offset: 00, 04, 08, 0C, 10, 14, 18 or 1C (hex)"
+            }
+            Refusal::ReadOnly => "10h and 14h cannot be written: leave the write out",
+            Refusal::Busy => "the board is calibrating: end the calibration first",
+            Refusal::NothingToEnd => {
+                "no calibration runs, or the clock is not settling: leave the event out"
+            }
             Refusal::NotWholeEvents => {
                 "the rows are not whole events: hand in all six numbers of every event"
             }

@@ -1,4 +1,5 @@
--- When each refusal number is given, exactly (01, "Refusal numbers": the table and its order).
+-- When each refusal number is given, exactly (01, "Refusal numbers": the table and its order; 02, 2026-02, for the settings of a
+-- power-up).
 use Prim.Native.Nat.{ℕ, _%_, _≤_, _<_}
 use mathlib.Core.Path.{_≡_}
 use mathlib.Core.Logic.{_≢_, _⊎_, _↔_}
@@ -48,8 +49,12 @@ Calibrating s = s .board .core .calibration .running ≡ true
 
 -- A line for each way in which an event comes by its number.
 pub data Given (s : State) : Event → ℕ → Type 0 where
-  -- 1  "power-up setting out of range"
-  badSetting : {x : Settings} → ¬ InRange x → Given s (powerUp x) 1
+  -- 02, 2026-02: "1 now means the fitted code only; 14 range, 15 filter, 16 kit, 17 firmware; checked in that order, then 2."
+  badFitted : {x : Settings} → 15 < x .fitted → Given s (powerUp x) 1
+  badRange : {x : Settings} → x .fitted ≤ 15 → 2 < x .range → Given s (powerUp x) 14
+  badFilter : {x : Settings} → x .fitted ≤ 15 → x .range ≤ 2 → 2 < x .filter → Given s (powerUp x) 15
+  badKit : {x : Settings} → x .fitted ≤ 15 → x .range ≤ 2 → x .filter ≤ 2 → 2 < x .kit → Given s (powerUp x) 16
+  badFirmware : {x : Settings} → x .fitted ≤ 15 → x .range ≤ 2 → x .filter ≤ 2 → x .kit ≤ 2 → 4095 < x .firmware → Given s (powerUp x) 17
   -- 2  "sample memory shorter than the depth"; at a power-up, than the depth it would fit
   shortForPowerUp : {x : Settings} → InRange x → length (s .memory) < depthOf (x .fitted) → Given s (powerUp x) 2
   short : {e : Event} → Ordinary e → Sound (s .board) → length (s .memory) < depth (s .board) → Given s e 2

@@ -1,32 +1,35 @@
 -- The depth is reckoned only of settings in range.
 use Prim.Native.Nat.{_≤_}
 use mathlib.Core.Path.{_≡_, sym, _∙_}
-use mathlib.Core.Bool.{true}
+use mathlib.Core.Bool.{not}
 use native.Mathlib.Omega.{arith}
 use borrow.Author.Needs.{needs}
-use borrow.Author.Tests.{lt-ltb, le-ltb, leb-true, not-true, not-false}
+use borrow.Author.Tests.{ne-eqb, lt-ltb, le-ltb, leb-true, not-false}
+use lib.Dec.{leb}
 use lib.ListN.{length}
 use Rattle.rules.specs.Record.{depthOf}
-use Rattle.rules.specs.Refusals.{inRange, firstOf, rows, refusal}
-use Rattle.rules.proofs.Choice.{and-both}
+use Rattle.rules.specs.Refusals.{firstOf, settingRows, settingRefusal}
+use Rattle.rules.proofs.Own.{power-up-own}
+use Rattle.rules.proofs.Choice.{cond-zero}
 use Rattle.record.proofs.Shifts.{shifted}
 use Rattle.refusals.proofs.events.power_up_refusal.Statement.{statement}
 use Rattle.refusals.proofs.events.power_up_refusal.Tie as tie
 
-in-range-requires : tie.Need-in-range-requires
-in-range-requires c κs = search needs
+setting-refusal-requires : tie.Need-setting-refusal-requires
+setting-refusal-requires c κs = search needs
 
 returns : tie.Need-returns
-unfolding refusal rows firstOf
-returns c = λ b m h. rw (sym (c .before .in-range .ensures) ∙ not-true _ (c .if1 .taken))
+returns c = λ b m h. rw (power-up-own _ _, sym (c .before .setting-refusal .ensures), ne-eqb _ _ (c .if1 .taken))
 
--- past the first test the settings are in range, and so is the fitted code
-is-so : (c : tie.After-struct-known) → inRange (c .before .before .before .args .x) ≡ true
-is-so c = sym (c .before .before .in-range .ensures) ∙ not-false _ (c .before .if1 .left)
+-- past the first test no setting is bad
+is-so : (c : tie.After-struct-known) → settingRefusal (c .before .before .before .args .x) ≡ 0
+is-so c = sym (c .before .before .setting-refusal .ensures) ∙ (c .before .if1 .left)
 
 fitted : (c : tie.After-struct-known) → c .before .before .before .args .x .fitted ≤ 15
-unfolding inRange
-fitted c = leb-true _ _ ((and-both _ _ (is-so c)) .0)
+unfolding settingRefusal settingRows firstOf
+fitted c =
+    let d = c .before .before .before .args .x .fitted in
+    leb-true d 15 (not-false (leb d 15) ((cond-zero (not (leb d 15)) 0 _ (is-so c)) .0))
 
 shl-if2 : tie.Need-shl-if2
 shl-if2 c = omega (arith, fitted c)
@@ -35,19 +38,17 @@ cast-if2 : tie.Need-cast-if2
 cast-if2 c = search needs
 
 returns-2 : tie.Need-returns-2
-unfolding refusal rows firstOf
 returns-2 c =
     λ b m h.
     let d = c .before .before .before .before .args .x .fitted in
-    rw (is-so (c .before), lt-ltb (length m) (depthOf d) (omega (arith, h, c .if2 .taken, (shifted d (fitted (c .before))) .0)))
+    rw (power-up-own _ _, is-so (c .before), lt-ltb (length m) (depthOf d) (omega (arith, h, c .if2 .taken, (shifted d (fitted (c .before))) .0)))
 
 returns-3 : tie.Need-returns-3
-unfolding refusal rows firstOf
 returns-3 c =
     λ b m h.
     let d = c .before .before .before .before .args .x .fitted in
-    rw (is-so (c .before), le-ltb (length m) (depthOf d) (omega (arith, h, c .if2 .left, (shifted d (fitted (c .before))) .0)))
+    rw (power-up-own _ _, is-so (c .before), le-ltb (length m) (depthOf d) (omega (arith, h, c .if2 .left, (shifted d (fitted (c .before))) .0)))
 
 pub power-up-refusal-spec : {M : Type 1} → statement M
 power-up-refusal-spec =
-    tie.close (tie.spec in-range-requires returns shl-if2 cast-if2 returns-2 returns-3)
+    tie.close (tie.spec setting-refusal-requires returns shl-if2 cast-if2 returns-2 returns-3)
