@@ -99,16 +99,21 @@ fn good_settings() {
     }
 }
 
+/// "1 now means the fitted code only; 14 range, 15 filter, 16 kit, 17 firmware"
+fn each_alone(good: [u32; 5], bad: [u32; 5], length: usize) {
+    let alone = |place| refusal(with(good, bad, &[place]), length);
+    assert_eq!(alone(FITTED), 1);
+    assert_eq!(alone(RANGE), 14);
+    assert_eq!(alone(FILTER), 15);
+    assert_eq!(alone(KIT), 16);
+    assert_eq!(alone(FIRMWARE), 17);
+}
+
 #[test]
 fn one_bad_setting() {
     for good in [SMALLEST, LARGEST] {
         for bad in [FIRST_BAD, LAST_BAD] {
-            let alone = |place| refusal(with(good, bad, &[place]), ENOUGH);
-            assert_eq!(alone(FITTED), 1);
-            assert_eq!(alone(RANGE), 14);
-            assert_eq!(alone(FILTER), 15);
-            assert_eq!(alone(KIT), 16);
-            assert_eq!(alone(FIRMWARE), 17);
+            each_alone(good, bad, ENOUGH);
         }
     }
 }
@@ -117,12 +122,7 @@ fn one_bad_setting() {
 fn bad_in_their_high_bits() {
     // Numbers that are 0 in their lowest byte or two bytes: none is cut off.
     for number in [0x1_0000, 0x100_0000, 0x8000_0000] {
-        let alone = |place| refusal(with(SMALLEST, [number; 5], &[place]), ENOUGH);
-        assert_eq!(alone(FITTED), 1);
-        assert_eq!(alone(RANGE), 14);
-        assert_eq!(alone(FILTER), 15);
-        assert_eq!(alone(KIT), 16);
-        assert_eq!(alone(FIRMWARE), 17);
+        each_alone(SMALLEST, [number; 5], ENOUGH);
     }
 }
 
@@ -170,12 +170,7 @@ fn short_memory() {
     for good in [SMALLEST, LARGEST] {
         for bad in [FIRST_BAD, LAST_BAD] {
             for length in [0, 7] {
-                let alone = |place| refusal(with(good, bad, &[place]), length);
-                assert_eq!(alone(FITTED), 1);
-                assert_eq!(alone(RANGE), 14);
-                assert_eq!(alone(FILTER), 15);
-                assert_eq!(alone(KIT), 16);
-                assert_eq!(alone(FIRMWARE), 17);
+                each_alone(good, bad, length);
                 assert_eq!(refusal(bad, length), 1);
             }
         }

@@ -32,6 +32,8 @@ cannot be read or written.
 const LONGEST: usize = 1_000;
 /// Of so many sessions of a sort one is taken.
 const CHOICE: usize = 4;
+/// So many files are looked through at most.
+const FILES: u64 = 1_000_000;
 /// What a session costs beside its bytes, for `richness`.
 const FIXED: usize = 200;
 
@@ -102,7 +104,14 @@ fn check(folder: &Path) -> Result<i32, String> {
 fn add(folder: &Path, seed: u64, count: usize, refusals: &[&str]) -> Result<i32, String> {
     let path = folder.join("stdin");
     let mut stdin = read(&path)?;
-    for session in chosen(seed, count, refusals) {
+    let more = chosen(seed, count, refusals);
+    if more.len() < count {
+        return Err(format!(
+            "only {} such sessions in {FILES} files: nothing is added",
+            more.len()
+        ));
+    }
+    for session in more {
         stdin.extend_from_slice(&(session.len() as u16).to_be_bytes());
         stdin.extend_from_slice(&session);
     }
@@ -146,7 +155,7 @@ fn sessions_of(stdin: &[u8]) -> Result<Vec<&[u8]>, String> {
 fn chosen(seed: u64, count: usize, refusals: &[&str]) -> Vec<Vec<u8>> {
     let mut sessions = Vec::new();
     let mut waiting: BTreeMap<Sort, Vec<Vec<u8>>> = BTreeMap::new();
-    for File { sort, bytes } in (0..).map(|index| File::new(seed, index)) {
+    for File { sort, bytes } in (0..FILES).map(|index| File::new(seed, index)) {
         if sessions.len() == count {
             break;
         }

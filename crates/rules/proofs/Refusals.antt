@@ -14,7 +14,7 @@ use Rattle.rules.specs.Registers.{registers, isOffset}
 use Rattle.rules.specs.Refusals.{firstOf, settingRows, settingRefusal, tooShort, isReadOnly, endsNothing, standing, rows, refusal}
 use Rattle.rules.specs.Laws.Soundness.{Sound, Stands}
 use Rattle.rules.specs.Laws.Refusals.{InRange, Offset, Ordinary, Heard, aTick, aClock, aTrigger, EndsCalibration, aPass, aFailure, Given, badFitted, badRange, badFilter, badKit, badFirmware, shortForPowerUp, short, unsound, noSuchWrite, noSuchRead, readOnly, calibrating, noCalibration, notSettling, poweredUp, written, readOut, heard, calibrationEnded, hasSettled, Refusal-exactly}
-use Rattle.rules.proofs.Choice.{cond-zero, cases, and-both, both-and, or-neither, or-cases, not-true, not-both, not-not, upTo, upTo-at}
+use Rattle.rules.proofs.Choice.{cond-zero, cases, or-neither, or-cases, not-true, not-both, not-not, upTo, upTo-at}
 use Rattle.rules.proofs.Own.{power-up-own}
 use Rattle.rules.proofs.Soundness.{sound-exactly}
 

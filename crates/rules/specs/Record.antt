@@ -19,6 +19,21 @@ pub record State : Type 0 where
 abbrev pub stateOf : Board → List ℕ → State
 stateOf board memory = record { board = board; memory = memory }
 
+-- ---- Settings
+
+-- 01: "a fitted code d (0 to 15), range, filter and kit codes (0 to 2) and a firmware number (0 to 4095)"
+abbrev pub fittedInRange : ℕ → Bool
+fittedInRange d = leb d 15
+
+abbrev pub codeInRange : ℕ → Bool
+codeInRange n = leb n 2
+
+abbrev pub firmwareInRange : ℕ → Bool
+firmwareInRange n = leb n 4095
+
+unfoldable pub optionsInRange : Options → Bool
+optionsInRange o = all (codeInRange (o .range) ∷ codeInRange (o .filter) ∷ codeInRange (o .kit) ∷ firmwareInRange (o .firmware) ∷ [])
+
 -- ---- Sizes
 
 -- 01: "The depth is 8·2^d values."
@@ -54,19 +69,6 @@ unfoldable pub stored : State → List ℕ
 stored s = values (depth (s .board)) (s .board .ring .first) (s .board .ring .count) (s .memory)
 
 -- ---- Soundness
-
--- 01: "a fitted code d (0 to 15), range, filter and kit codes (0 to 2) and a firmware number (0 to 4095)"
-abbrev pub fittedInRange : ℕ → Bool
-fittedInRange d = leb d 15
-
-abbrev pub codeInRange : ℕ → Bool
-codeInRange n = leb n 2
-
-abbrev pub firmwareInRange : ℕ → Bool
-firmwareInRange n = leb n 4095
-
-unfoldable pub optionsInRange : Options → Bool
-optionsInRange o = all (codeInRange (o .range) ∷ codeInRange (o .filter) ∷ codeInRange (o .kit) ∷ firmwareInRange (o .firmware) ∷ [])
 
 -- 01: "A record is sound when: .." The clauses that speak of sizes and places are in soundRing.
 unfoldable pub soundCore : Core → Bool
