@@ -6,10 +6,10 @@ use mathlib.Core.Bool.{true, false, not, _||_, cond, true≢false, false≢true}
 use native.Mathlib.Omega.{arith}
 use borrow.Author.Tests.{ltb-true, ltb-false, leb-true, leb-false, le-leb, lt-leb, lt-ltb, le-ltb, eqb-true, eqb-false, ne-eqb}
 use lib.Dec.{leb, ltb, eqb}
-use lib.ListN.{length}
+use lib.ListN.{length, replicate, length-replicate}
 use Rattle.rules.specs.Types.{Settings, Event, powerUp, write, read, signal, Signal, tick, outside, trigger, passed, failed, settled}
 use Rattle.rules.specs.Bits.{some}
-use Rattle.rules.specs.Record.{State, depthOf, depth, sound}
+use Rattle.rules.specs.Record.{State, depthOf, depth, sound, start}
 use Rattle.rules.specs.Registers.{registers, isOffset}
 use Rattle.rules.specs.Refusals.{firstOf, settingRows, settingRefusal, tooShort, isReadOnly, endsNothing, standing, rows, refusal}
 use Rattle.rules.specs.Laws.Soundness.{Sound, Stands}
@@ -203,6 +203,13 @@ accepted (poweredUp h l) = (h, l)
 
 pub power-up-accepted : (s : State) (x : Settings) → refusal s (powerUp x) ≡ 0 → InRange x × (depthOf (x .fitted) ≤ length (s .memory))
 power-up-accepted s x h = accepted ((refusal-exactly s (powerUp x) 0) .0 h)
+
+-- where none is bad they are in range: over enough memory such a power-up is done
+pub none-bad-in-range : (x : Settings) → settingRefusal x ≡ 0 → InRange x
+none-bad-in-range x h =
+    let s : State = start (replicate (depthOf (x .fitted)) 0) in
+    let l = length-replicate {A = ℕ} (depthOf (x .fitted)) 0 in
+    (power-up-accepted s x (power-up-own s x ∙ rw (h, le-ltb (length (s .memory)) (depthOf (x .fitted)) (omega (arith, l))))) .0
 
 -- ---- Any other event that is done found a sound record over enough memory
 

@@ -53,7 +53,7 @@ pub record SoundRing (z : Size) (r : Ring) : Type 0 where
 
 -- ---- The tests are the parts
 
-pub options-to : (o : Options) → optionsInRange o ≡ true → SoundOptions o
+options-to : (o : Options) → optionsInRange o ≡ true → SoundOptions o
 unfolding optionsInRange
 options-to o h =
     let a = all-cons _ _ h in
@@ -62,7 +62,7 @@ options-to o h =
     let d = all-cons _ _ (c .1) in
     record { range = leb-true _ _ (a .0); filter = leb-true _ _ (b .0); kit = leb-true _ _ (c .0); firmware = leb-true _ _ (d .0) }
 
-pub options-from : (o : Options) → SoundOptions o → optionsInRange o ≡ true
+options-from : (o : Options) → SoundOptions o → optionsInRange o ≡ true
 unfolding optionsInRange
 options-from o s =
     cons-all _ _ (le-leb _ _ (s .range)) (cons-all _ _ (le-leb _ _ (s .filter)) (cons-all _ _ (le-leb _ _ (s .kit)) (cons-all _ _ (le-leb _ _ (s .firmware)) all-nil)))

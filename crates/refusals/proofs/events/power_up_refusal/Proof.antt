@@ -1,16 +1,14 @@
 -- The depth is reckoned only of settings in range.
 use Prim.Native.Nat.{_≤_}
 use mathlib.Core.Path.{_≡_, sym, _∙_}
-use mathlib.Core.Bool.{not}
 use native.Mathlib.Omega.{arith}
 use borrow.Author.Needs.{needs}
-use borrow.Author.Tests.{ne-eqb, lt-ltb, le-ltb, leb-true, not-false}
-use lib.Dec.{leb}
+use borrow.Author.Tests.{ne-eqb, lt-ltb, le-ltb}
 use lib.ListN.{length}
 use Rattle.rules.specs.Record.{depthOf}
-use Rattle.rules.specs.Refusals.{firstOf, settingRows, settingRefusal}
+use Rattle.rules.specs.Refusals.{settingRefusal}
 use Rattle.rules.proofs.Own.{power-up-own}
-use Rattle.rules.proofs.Choice.{cond-zero}
+use Rattle.rules.proofs.Refusals.{none-bad-in-range}
 use Rattle.record.proofs.Shifts.{shifted}
 use Rattle.refusals.proofs.events.power_up_refusal.Statement.{statement}
 use Rattle.refusals.proofs.events.power_up_refusal.Tie as tie
@@ -26,10 +24,7 @@ is-so : (c : tie.After-struct-known) → settingRefusal (c .before .before .befo
 is-so c = sym (c .before .before .setting-refusal .ensures) ∙ (c .before .if1 .left)
 
 fitted : (c : tie.After-struct-known) → c .before .before .before .args .x .fitted ≤ 15
-unfolding settingRefusal settingRows firstOf
-fitted c =
-    let d = c .before .before .before .args .x .fitted in
-    leb-true d 15 (not-false (leb d 15) ((cond-zero (not (leb d 15)) 0 _ (is-so c)) .0))
+fitted c = (none-bad-in-range _ (is-so c)) .fitted
 
 shl-if2 : tie.Need-shl-if2
 shl-if2 c = omega (arith, fitted c)
