@@ -1,22 +1,13 @@
 // How a session file ends.
 use crate::print;
 use files::End;
-use files::Fault;
-
-fn number(why: Fault) -> u32 {
-    match why {
-        Fault::Version => 10,
-        Fault::Cut => 11,
-        Fault::Length => 12,
-        Fault::Kind => 13,
-    }
-}
+use session::fault_number;
 
 fn ended(end: End) {
     match end {
         End::File => print::field(0),
         End::Refused(why, place) => {
-            print::field(number(why));
+            print::field(fault_number(why));
             print::field((place % 65537) as u32);
         }
     }

@@ -1,24 +1,12 @@
 // How a listing ends.
 ghost use Prim.Native.Nat.{_+_, _^_, _<_, _≤_};
-ghost use mathlib.Core.Path.{_≡_};
 ghost use lib.ListN.{length};
-ghost use Rattle.files.specs.File.{faultNumber, verdict};
+ghost use Rattle.files.specs.File.{verdict};
 ghost use Rattle.files.specs.Pieces.{Piece};
 ghost use Rattle.text.specs.Listing.{ending};
 use files::End;
-use files::Fault;
 use lines::put_tail;
-
-pub(crate) fn fault_number(why: Fault) -> u32
-    ensures { λ r. ⌜ r ≡ faultNumber why ⌝ }
-{
-    match why {
-        Fault::Version => 10,
-        Fault::Cut => 11,
-        Fault::Length => 12,
-        Fault::Kind => 13,
-    }
-}
+use session::fault_number;
 
 // The place of a refusal is printed as a number of 32 bits.
 pub(crate) fn put_end(out: &mut [u8], at: usize, end: End, levels: [u16; 20]) -> usize

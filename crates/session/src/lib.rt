@@ -1,7 +1,8 @@
-// Session files: the record at a place of the lent file bytes, and how long a record of a kind is. Every call takes every input.
+// Session files: the record at a place of the lent file bytes, how long a record of a kind is, and a fault's number. Every call takes
+// every input.
 ghost use mathlib.Core.Path.{_≡_};
 ghost use Rattle.files.specs.File.{itemAt};
-ghost use Rattle.session.specs.Promises.{LengthTold, ItemTold};
+ghost use Rattle.session.specs.Promises.{LengthTold, FaultTold, ItemTold};
 use crate::common::ahead;
 use crate::common::load_stands;
 use crate::common::tick_stands;
@@ -29,6 +30,18 @@ pub fn length_of(kind: u32) -> u32
         3 => 2,
         4..=9 => 1,
         _ => 0,
+    }
+}
+
+// 01's number of what is wrong with a file.
+pub fn fault_number(why: Fault) -> u32
+    ensures { λ r. ⌜ FaultTold why r ⌝ }
+{
+    match why {
+        Fault::Version => 10,
+        Fault::Cut => 11,
+        Fault::Length => 12,
+        Fault::Kind => 13,
     }
 }
 

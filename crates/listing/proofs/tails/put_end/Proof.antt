@@ -38,7 +38,7 @@ unfolding ending
 returns-2 c =
     let t = c .before .before .put-tail2 .ensures in
     let f = c .before .before .before .before in
-    rw (f .before .before .end .given .1) (printed-piece (rw (c .before .before .before .fault-number .ensures) at t) (f .before .before .before .before .before .pre .0))
+    rw (f .before .before .end .given .1) (printed-piece (rw (c .before .before .before .fault-number .ensures .told) at t) (f .before .before .before .before .before .pre .0))
 
 same-length : tie.Need-same-length
 same-length c = piece-length (returns c)

@@ -1,7 +1,7 @@
 use borrow.Author.Needs.{needs}
-use Rattle.files.specs.File.{faultNumber}
-use Rattle.listing.proofs.tails.fault_number.Statement.{statement}
-use Rattle.listing.proofs.tails.fault_number.Tie as tie
+use Rattle.voltage.specs.Counting.{isPowerUp}
+use Rattle.volts.proofs.running.starts_afresh.Statement.{statement}
+use Rattle.volts.proofs.running.starts_afresh.Tie as tie
 
 enum-told : tie.Need-enum-told
 enum-told c = search needs
@@ -16,22 +16,22 @@ enum-told-4 : tie.Need-enum-told-4
 enum-told-4 c = search needs
 
 returns : tie.Need-returns
-unfolding faultNumber
+unfolding isPowerUp
 returns c = rw (c .enum-told .given .1)
 
 returns-2 : tie.Need-returns-2
-unfolding faultNumber
+unfolding isPowerUp
 returns-2 c = rw (c .enum-told2 .given .1)
 
 returns-3 : tie.Need-returns-3
-unfolding faultNumber
+unfolding isPowerUp
 returns-3 c = rw (c .enum-told3 .given .1)
 
 returns-4 : tie.Need-returns-4
-unfolding faultNumber
+unfolding isPowerUp
 returns-4 c = rw (c .enum-told4 .given .1)
 
-pub fault-number-spec : {M : Type 1} → statement M
-fault-number-spec =
+pub starts-afresh-spec : {M : Type 1} → statement M
+starts-afresh-spec =
     tie.close
     (tie.spec enum-told enum-told-2 enum-told-3 enum-told-4 returns returns-2 returns-3 returns-4)

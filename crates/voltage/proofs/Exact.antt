@@ -1,0 +1,90 @@
+-- The volts of a level are exact, in the order of the levels, and zero is positive.
+use Prim.Native.Nat.{ℕ, _+_, _-_, _*_, _≤_, _<_}
+use mathlib.Core.Path.{_≡_, refl, sym, ap, _∙_, subst}
+use mathlib.Core.Bool.{Bool, true, false, cond, true≢false}
+use native.Mathlib.Nat.{mul-le-mul, mul-pos}
+use native.Mathlib.Omega.{arith}
+use borrow.Author.Tests.{lt-ltb, le-ltb, ltb-true, ltb-false}
+use lib.Dec.{ltb, eqb}
+use lib.Ieee.{Float, neg, eq}
+use lib.Ieee.Exact.{HasValue}
+use Rattle.rules.proofs.Choice.{cases, either}
+use Rattle.voltage.specs.Volts.{factor, share, voltsOf, zeroVolts}
+use Rattle.voltage.specs.Laws.{Exact, Volts-exact}
+use Rattle.voltage.proofs.Numbers.{Height, over, under, not-zero, share-value, minus-value}
+
+-- ---- Sizes
+
+factor-small : (range : ℕ) → factor range ≤ 20
+unfolding factor
+factor-small range = either (λ (n : ℕ). n ≤ 20) (eqb range 0) (omega arith) (either (λ (n : ℕ). n ≤ 20) (eqb range 1) (omega arith) (omega arith))
+
+factor-pos : (range : ℕ) → 0 < factor range
+unfolding factor
+factor-pos range = either (λ (n : ℕ). 0 < n) (eqb range 0) (omega arith) (either (λ (n : ℕ). 0 < n) (eqb range 1) (omega arith) (omega arith))
+
+-- the size of a voltage, times 65,536
+pub size-small : (n range : ℕ) → n ≤ 32768 → n * factor range ≤ 655360
+size-small n range h = mul-le-mul h (factor-small range)
+
+-- ---- Above and below midrange
+
+pub volts-above : (range level : ℕ) → 32768 ≤ level → voltsOf range level ≡ share ((level - 32768) * factor range)
+unfolding voltsOf
+volts-above range level h = rw (le-ltb level 32768 h)
+
+pub volts-below : (range level : ℕ) → level < 32768 → voltsOf range level ≡ neg (share ((32768 - level) * factor range))
+unfolding voltsOf
+volts-below range level h = rw (lt-ltb level 32768 h)
+
+above-value : (range level : ℕ) → level < 65536 → 32768 ≤ level → HasValue (voltsOf range level) false ((level - 32768) * factor range) 65536
+above-value range level h l =
+    rw (volts-above range level l) (share-value _ (omega (arith, size-small (level - 32768) range (omega (arith, h)))))
+
+below-value : (range level : ℕ) → level < 32768 → HasValue (voltsOf range level) true ((32768 - level) * factor range) 65536
+below-value range level l =
+    rw (volts-below range level l) (minus-value _ (omega (arith, size-small (32768 - level) range (omega arith))))
+
+-- ---- The laws
+
+exactly : (range level : ℕ) → level < 65536 → Exact (factor range) level (voltsOf range level)
+exactly range level h = record { above = above-value range level h; below = below-value range level }
+
+pub volts-exact : Volts-exact
+unfolding factor
+volts-exact level h = (exactly 0 level h, exactly 1 level h, exactly 2 level h)
+
+pub volts-height : (range level : ℕ) → level < 65536 → (h : ℕ) × Height (voltsOf range level) h
+volts-height range level h = go (ltb level 32768) refl
+  where
+    go : (t : Bool) → ltb level 32768 ≡ t → (h : ℕ) × Height (voltsOf range level) h
+    go true e =
+        let n = (32768 - level) * factor range in
+        (655360 - n, under n (below-value range level (ltb-true _ _ e)) (omega (arith, size-small (32768 - level) range (omega arith))))
+    go false e =
+        let n = (level - 32768) * factor range in
+        (655360 + n, over n (above-value range level h (ltb-false _ _ e)) refl)
+
+zero-share : share 0 ≡ zeroVolts
+unfolding share lib.Ieee.round
+zero-share = refl
+
+-- 8000h is zero volts in every range
+pub midrange-zero : (range : ℕ) → voltsOf range 32768 ≡ zeroVolts
+midrange-zero range = volts-above range 32768 (omega arith) ∙ ap share (native.Mathlib.Nat.zero-mul (factor range)) ∙ zero-share
+
+pub volts-zero : (range level : ℕ) → level < 65536 → eq (voltsOf range level) zeroVolts ≡ true → voltsOf range level ≡ zeroVolts
+volts-zero range level h z = go (native.Mathlib.Decide.ℕ-discrete level 32768) (ltb level 32768) refl
+  where
+    less : level < 32768 → 0 < 32768 - level
+    less l = omega (arith, l)
+
+    more : ¬ (level ≡ 32768) → 32768 ≤ level → 0 < level - 32768
+    more d l = omega (arith, d, l)
+
+    go : Dec (level ≡ 32768) → (t : Bool) → ltb level 32768 ≡ t → voltsOf range level ≡ zeroVolts
+    go (yes e) t f = ap (voltsOf range) e ∙ midrange-zero range
+    go (no d) true f =
+        absurd (true≢false (sym z ∙ not-zero _ true _ (below-value range level (ltb-true _ _ f)) (mul-pos (less (ltb-true _ _ f)) (factor-pos range))))
+    go (no d) false f =
+        absurd (true≢false (sym z ∙ not-zero _ false _ (above-value range level h (ltb-false _ _ f)) (mul-pos (more d (ltb-false _ _ f)) (factor-pos range))))

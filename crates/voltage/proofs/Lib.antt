@@ -1,0 +1,8 @@
+-- The laws of specs/, and what the crates above cite; each file opens with what it shows.
+pub mod Lists
+pub mod Numbers
+pub mod Exact
+pub mod Playing
+pub mod Counting
+pub mod Bounds
+pub mod Tables

@@ -1,0 +1,5 @@
+pub mod Volts
+pub mod Counting
+pub mod Extremes
+pub mod Table
+pub mod Laws

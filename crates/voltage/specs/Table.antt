@@ -1,0 +1,60 @@
+-- The table of a session: the refusal, and three numbers for each of the twenty channels.
+--   tableRefusal s m    the refusal number of the session file s over the sample memory m
+--   tableChannels s m   the twenty records
+use Prim.Native.Nat.{ℕ, zero, suc}
+use mathlib.Core.Bool.{cond}
+use mathlib.Core.List.{List, [], _∷_, map}
+use lib.Dec.{eqb}
+use lib.ListN.{getD}
+use lib.Ieee.{Float}
+use Rattle.rules.specs.declared.Board.{Board}
+use Rattle.rules.specs.Record.{start}
+use Rattle.files.specs.File.{Session, session, verdict}
+use Rattle.voltage.specs.declared.Extremes.{Extremes}
+use Rattle.voltage.specs.Volts.{voltsOf}
+use Rattle.voltage.specs.Counting.{counted}
+use Rattle.voltage.specs.Extremes.{lowestOf, highestOf, lastOf}
+
+-- ---- A channel
+
+-- the volts of the channel k, by the record's own range
+unfoldable pub voltsAt : ℕ → Board → Float
+voltsAt k b = voltsOf (b .core .options .range) (getD (b .core .outputs .levels) k 0)
+
+abbrev pub extremesOf : List Float → Extremes
+extremesOf vs = record { lowest = lowestOf vs; highest = highestOf vs; last = lastOf vs }
+
+unfoldable pub channel : List Board → ℕ → Extremes
+channel bs k = extremesOf (map (voltsAt k) bs)
+
+-- ---- Twenty of them
+
+-- n channels from the channel k on
+unfoldable pub channelsFrom : ℕ → ℕ → List Board → List Extremes
+channelsFrom zero k bs = []
+channelsFrom (suc n) k bs = channel bs k ∷ channelsFrom n (suc k) bs
+
+-- 02: "one record per channel". 01 keeps twenty levels, whichever channels are fitted. Where nothing counted, all are zeros.
+abbrev pub channelsOf : List Board → List Extremes
+channelsOf bs = channelsFrom 20 0 bs
+
+-- ---- A session
+
+-- the records that count in a session file, from the unpowered record over the sample memory m
+unfoldable pub countedIn : List ℕ → List ℕ → List Board
+countedIn s m = counted [] (start m) ((session s) .events)
+
+-- 02: "18 when the session has no accepted power-up"
+abbrev pub powerRefusal : List Board → ℕ
+powerRefusal [] = 18
+powerRefusal (b ∷ bs) = 0
+
+-- 02: "file refusals 10 to 13 come first"
+unfoldable pub tableRefusal : List ℕ → List ℕ → ℕ
+tableRefusal s m =
+    let file : ℕ = (verdict ((session s) .end)) .number in
+    cond (eqb file 0) (powerRefusal (countedIn s m)) file
+
+-- 02: "all of them return all zeros"
+unfoldable pub tableChannels : List ℕ → List ℕ → List Extremes
+tableChannels s m = channelsOf (cond (eqb (tableRefusal s m) 0) (countedIn s m) [])

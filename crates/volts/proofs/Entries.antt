@@ -1,0 +1,63 @@
+-- The channels of a table, entered one after another; and two tables that agree in each of their places are one.
+use Prim.Native.Nat.{ℕ, zero, suc, _+_, _≤_, _<_}
+use mathlib.Core.Path.{_≡_, refl, sym, ap, _∙_}
+use mathlib.Core.Bool.{Bool}
+use mathlib.Core.List.{List, [], _∷_}
+use native.Mathlib.Nat.{le-refl}
+use native.Mathlib.Decide.{ℕ-discrete}
+use native.Mathlib.Omega.{arith}
+use lib.ListN.{length, getD, set, length-set}
+use lib.Seq.{getD-set-same, getD-set-other}
+use lib.Ieee.{Float}
+use Rattle.voltage.specs.declared.Extremes.{Extremes}
+use Rattle.voltage.specs.Volts.{voltsOf}
+use Rattle.volts.specs.Watching.{none, entered, AllEntered}
+
+module _ (fresh : Bool) (ts : List Extremes) (range : ℕ) (levels : List ℕ) where
+  abbrev pub now : ℕ → Extremes
+  now j = entered fresh (getD ts j none) (voltsOf range (getD levels j 0))
+
+  -- those below k are entered, the others are as they were
+  pub record Upto (k : ℕ) (t : List Extremes) : Type 0 where
+    pub within : k ≤ 20
+    pub long : length t ≡ 20
+    pub done : (j : ℕ) → j < k → getD t j none ≡ now j
+    pub left : (j : ℕ) → k ≤ j → getD t j none ≡ getD ts j none
+
+  pub upto-start : length ts ≡ 20 → Upto 0 ts
+  upto-start h = record { within = omega arith; long = h; done = λ j l. absurd (omega (arith, l)); left = λ j l. refl }
+
+  pub upto-next : (k : ℕ) (t : List Extremes) (v : Float) (y : Extremes) → k < 20 → Upto k t
+      → v ≡ voltsOf range (getD levels k 0)
+      → y ≡ entered fresh (getD t k none) v
+      → Upto (k + 1) (set t k y)
+  upto-next k t v y l u f e =
+      record {
+        within = omega (arith, l);
+        long = length-set t k y ∙ u .long;
+        done = λ j b. go j b (ℕ-discrete k j);
+        left = λ j b. getD-set-other t k j y none (λ q. omega (arith, q, b)) ∙ u .left j (omega (arith, b));
+      }
+    where
+      go : (j : ℕ) → j < k + 1 → Dec (k ≡ j) → getD (set t k y) j none ≡ now j
+      go j b (yes q) =
+          ap (λ (i : ℕ). getD (set t k y) i none) (sym q)
+          ∙ getD-set-same t k y none (omega (arith, u .long, l))
+          ∙ e
+          ∙ (λ i. entered fresh (u .left k (le-refl k) i) (f i))
+          ∙ ap now q
+      go j b (no d) = getD-set-other t k j y none (λ q. d (sym q)) ∙ u .done j (omega (arith, b, d))
+
+  pub upto-all : (k : ℕ) (t : List Extremes) → 20 ≤ k → Upto k t → AllEntered fresh ts range levels t
+  upto-all k t l u = record { twenty = u .long; each = λ j b. u .done j (omega (arith, b, l)) }
+
+-- ---- Tables that agree
+
+pub same-entries : (xs ys : List Extremes) → length xs ≡ length ys → ((k : ℕ) → k < length xs → getD xs k none ≡ getD ys k none) → xs ≡ ys
+same-entries [] [] h f = refl
+same-entries [] (y ∷ ys) h f = absurd (omega (arith, h))
+same-entries (x ∷ xs) [] h f = absurd (omega (arith, h))
+same-entries (x ∷ xs) (y ∷ ys) h f =
+    let head = f 0 (omega arith) in
+    let tail = same-entries xs ys (omega (arith, h)) (λ k l. f (suc k) (omega (arith, l))) in
+    λ i. head i ∷ tail i

@@ -1,0 +1,38 @@
+use mathlib.Core.Path.{_≡_, ap, _∙_}
+use mathlib.Core.Bool.{Bool, _&&_}
+use mathlib.Core.List.{List}
+use borrow.Author.Needs.{needs}
+use lib.Dec.{eqb}
+use Rattle.rules.specs.declared.Answer.{Answer}
+use Rattle.rules.specs.declared.Board.{Board}
+use Rattle.voltage.specs.Counting.{isPowerUp, count}
+use Rattle.volts.specs.Watching.{tableOf, watched}
+use Rattle.volts.proofs.observe.Statement.{statement}
+use Rattle.volts.proofs.observe.Tie as tie
+
+step-requires : tie.Need-step-requires
+step-requires c κs = tt
+
+starts-afresh-requires : tie.Need-starts-afresh-requires
+starts-afresh-requires c κs = tt
+
+watch-requires : tie.Need-watch-requires
+watch-requires c κs = tt
+
+same-length : tie.Need-same-length
+same-length c = search needs
+
+returns : tie.Need-returns
+unfolding count
+returns c =
+    let s = c .before .before .before .before .before .before .step .ensures in
+    let e = c .before .before .before .before .before .before .before .before .before .args .e in
+    let fresh = c .before .starts-afresh .ensures ∙ ap (λ (a : Answer). isPowerUp e && eqb (a .refusal) 0) (s .answer) in
+    record {
+      board = s .board;
+      memory = s .memory;
+      table = λ seen h. c .watch .ensures seen h ∙ (λ i. tableOf (watched (fresh i) (s .board i) seen));
+    }
+
+pub observe-spec : {M : Type 1} → statement M
+observe-spec = tie.close (tie.spec step-requires starts-afresh-requires watch-requires same-length returns)

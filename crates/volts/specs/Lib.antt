@@ -1,0 +1,4 @@
+pub mod Watching
+pub mod Observing
+pub mod Promises
+pub mod Unique

@@ -1,0 +1,60 @@
+-- A table as the loop holds it, and what an event makes of it.
+--   tableOf seen          the table of the records that counted so far
+--   watched fresh b seen  those that count when an event has left b; `fresh` says that it is an accepted power-up
+--   entered fresh x v     a channel's three numbers, when it has the volts v
+--   closedTable t end     the table when the file ends so
+use Prim.Native.Nat.{ℕ, _<_}
+use mathlib.Core.Path.{_≡_}
+use mathlib.Core.Bool.{Bool, false, cond}
+use mathlib.Core.List.{List, [], _∷_}
+use lib.ListN.{length, getD}
+use lib.Ieee.{Float, nan}
+use Rattle.rules.specs.declared.Board.{Board}
+use Rattle.files.specs.declared.End.{End}
+use Rattle.files.specs.declared.End.the-variants.{File, Refused}
+use Rattle.files.specs.File.{faultNumber}
+use Rattle.voltage.specs.declared.Extremes.{Extremes}
+use Rattle.voltage.specs.declared.Table.{Table}
+use Rattle.voltage.specs.Volts.{voltsOf}
+use Rattle.voltage.specs.Counting.{also}
+use Rattle.voltage.specs.Extremes.{lesser, greater}
+use Rattle.voltage.specs.Table.{channelsOf, powerRefusal}
+
+-- what the checker takes for an element past the end
+abbrev pub none : Extremes
+none = record { lowest = nan; highest = nan; last = nan }
+
+abbrev pub entered : Bool → Extremes → Float → Extremes
+entered fresh x v =
+    cond fresh (record { lowest = v; highest = v; last = v })
+    (record { lowest = lesser (x .lowest) v; highest = greater (x .highest) v; last = v })
+
+-- the twenty channels ts, when the record after an event has this range and these levels
+pub record AllEntered (fresh : Bool) (ts : List Extremes) (range : ℕ) (levels : List ℕ) (r : List Extremes) : Type 0 where
+  pub twenty : length r ≡ 20
+  pub each : (k : ℕ) → k < 20 → getD r k none ≡ entered fresh (getD ts k none) (voltsOf range (getD levels k 0))
+
+abbrev pub refusedTable : ℕ → Table
+refusedTable n = record { refusal = n; channels = channelsOf [] }
+
+abbrev pub tableOf : List Board → Table
+tableOf seen = record { refusal = powerRefusal seen; channels = channelsOf seen }
+
+abbrev pub watched : Bool → Board → List Board → List Board
+watched fresh b seen = cond fresh (b ∷ []) (also b seen)
+
+-- whatever counted before: r is the table when an event has left b
+abbrev pub Watched : Bool → Board → Table → Table → Type 0
+Watched fresh b t r = (seen : List Board) → t ≡ tableOf seen → r ≡ tableOf (watched fresh b seen)
+
+-- the same of its channels, where the event starts afresh or something counted before
+abbrev pub RecordEntered : Bool → Board → List Extremes → Table → Type 0
+RecordEntered fresh b ts r =
+    (seen : List Board)
+    → ts ≡ channelsOf seen
+    → (fresh ≡ false → powerRefusal seen ≡ 0)
+    → r ≡ tableOf (watched fresh b seen)
+
+abbrev pub closedTable : Table → End → Table
+closedTable t File = t
+closedTable t (Refused why p) = refusedTable (faultNumber why)
