@@ -42,6 +42,10 @@ static const char *words(uint32_t refusal)
     case NERGUTSAI_FIELD_TOO_LARGE:
         return "a field is too large for its bytes, or not 0 where the kind has none: correct the first such event";
     case NERGUTSAI_PLACE_PAST_END: return "the place is past the output's end: name one inside the output";
+    case NERGUTSAI_NOT_A_SESSION: return "the file is no session: its first byte is 01";
+    case NERGUTSAI_CUT: return "the file ends inside a record: hand in the whole of it";
+    case NERGUTSAI_WRONG_LENGTH: return "a record's length is wrong for its kind: 7, 6 and 2 for kinds 1 to 3, 1 for 4 to 9";
+    case NERGUTSAI_NO_POWER_UP: return "no power-up is accepted: the listing says why each was refused";
     case NERGUTSAI_NO_ROOM: return "the session does not fit from the place on: lend a longer output";
     default: return "done";
     }
@@ -94,5 +98,17 @@ int main(void)
     uint8_t text[NERGUTSAI_ROOM(sizeof file)];
     fwrite(text, 1, nergutsai_list(file, end, memory, 8, text, sizeof text), stdout);
     fwrite(text, 1, nergutsai_list(file, end - 1, memory, 8, text, sizeof text), stdout);
+
+    /* And the volts of its first two channels; cut, it has none. */
+    for (size_t cut = 0; cut < 2; cut++) {
+        float volts[NERGUTSAI_VOLTS];
+        refusal = nergutsai_volts(file, end - cut, memory, 8, volts);
+        printf("%-36s refusal %" PRIu32 "  %s\n", cut ? "volts of the cut file" : "volts", refusal, words(refusal));
+        for (int channel = 0; refusal == NERGUTSAI_TABLE && channel < 2; channel++) {
+            const float *three = volts + 3 * channel;
+            printf("channel %d: lowest %.16f, highest %.16f, last %.16f\n", channel, three[NERGUTSAI_LOWEST],
+                three[NERGUTSAI_HIGHEST], three[NERGUTSAI_LAST]);
+        }
+    }
     return 0;
 }

@@ -1,7 +1,8 @@
 /* The proved board model for hosts in C: one event on a board record, its sample memory and an event, all as numbers;
- * the rate question of a board record; the listing of a whole session file; and events written as a session file.
- * Link with libbridge.a (`rt staticlib bridge`) for the first two, libferry.a (`rt staticlib ferry`) for the listing and libquay.a
- * (`rt staticlib quay`) for the last; all three are for Linux on x86-64. */
+ * the rate question of a board record; the listing of a whole session file; events written as a session file; and the lowest,
+ * highest and last volts of a session file's channels.
+ * Link with libbridge.a (`rt staticlib bridge`) for the first two, libferry.a (`rt staticlib ferry`) for the listing, libquay.a
+ * (`rt staticlib quay`) for the writing and libtide.a (`rt staticlib tide`) for the volts; all are for Linux on x86-64. */
 #ifndef NERGUTSAI_H
 #define NERGUTSAI_H
 
@@ -133,6 +134,33 @@ uint32_t nergutsai_write(
     const uint32_t *rows, size_t rows_length,
     uint8_t *output, size_t output_length,
     size_t place, size_t *end);
+
+/* How many numbers nergutsai_volts writes, and which of a channel's three is which: those of channel k stand at 3 * k. */
+enum { NERGUTSAI_VOLTS = 60 };
+enum { NERGUTSAI_LOWEST, NERGUTSAI_HIGHEST, NERGUTSAI_LAST };
+
+/* What nergutsai_volts returns: that there is a table, or why not. NERGUTSAI_UNKNOWN_KIND above is 13, here of a record. */
+enum {
+    NERGUTSAI_TABLE = 0,
+    NERGUTSAI_NOT_A_SESSION = 10, /* the file is empty, or its first byte is not 01 */
+    NERGUTSAI_CUT = 11,           /* the file ends inside a record: hand in the whole of it */
+    NERGUTSAI_WRONG_LENGTH = 12,  /* a record's length is wrong for its kind, or 0 */
+    NERGUTSAI_NO_POWER_UP = 18    /* no power-up of the session is accepted: its listing says why each was refused */
+};
+
+/* The lowest, the highest and the last volts of each of the twenty channels over a session file, on a board with this sample memory.
+ * The levels right after an accepted power-up count, and those after each later event; another accepted power-up starts afresh. The
+ * volts are exact: times 65,536 each is the level less 32,768, times 5, 10 or 20 for range 0, 1, 2. Zero is positive zero. Returns
+ *   NERGUTSAI_TABLE  the sixty numbers are written. Lowest is never above 0 and highest never below it, since a power-up puts every
+ *      channel to 0 volts; a channel that is not fitted stays there.
+ *   another of the numbers above  it was refused: the sixty numbers are positive zeros. A bad file is told first.
+ * The memory is as the run left it, also where the session was refused. A file may have any length.
+ * The file is only read. The three pointers must be aligned and not NULL, `file` and `memory` for as many bytes or numbers as their
+ * lengths say, and no two may overlap. */
+uint32_t nergutsai_volts(
+    const uint8_t *file, size_t file_length,
+    uint32_t *memory, size_t memory_length,
+    float volts[NERGUTSAI_VOLTS]);
 
 #ifdef __cplusplus
 }

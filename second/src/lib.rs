@@ -1,10 +1,10 @@
 //! A second, independent model of the output board, written from document 01
 //! ("Build outline: the output board and its exact rules") and, where 01 is
 //! silent, from the board's manual; of document 02 ("Further changes
-//! requested") it has requests 2026-01 and 2026-02. It is written to be read
+//! requested") it has requests 2026-01 to 2026-03. It is written to be read
 //! beside them: each rule stands under a comment that quotes its sentence.
 //! DECISIONS.md lists the places where a sentence had to be interpreted.
-//! `#[inline]` marks what every event of a listing or of a written session goes
+//! `#[inline]` marks what every event of a run or of a written session goes
 //! through.
 
 #![forbid(unsafe_code)]
@@ -21,7 +21,9 @@ mod record;
 mod refuse;
 mod registers;
 mod rows;
+mod run;
 mod session;
+mod volts;
 mod writer;
 
 pub use event::{step, Answer, Event};
@@ -29,4 +31,5 @@ pub use listing::{list, listing};
 pub use rates::rates;
 pub use record::Record;
 pub use rows::rows_of;
+pub use volts::{volts, Volts};
 pub use writer::{write_session, Written};

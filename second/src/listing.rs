@@ -1,9 +1,8 @@
 //! What `rehearse` prints.
 
-use crate::event::{step, Answer};
+use crate::event::Answer;
 use crate::line::{append, hex};
-use crate::record::Record;
-use crate::session::{next, start, Next};
+use crate::run::run;
 
 /// "`rehearse` reads a file (at most 65,536 bytes, memory 16,384 values) from
 /// standard input."
@@ -25,43 +24,19 @@ pub fn list(file: &[u8], memory: &mut [u32], out: &mut Vec<u8>) {
         out.extend_from_slice(b"TOO LONG\n");
         return;
     }
-    // "A run starts unpowered"
-    let mut record = Record::unpowered();
     out.extend_from_slice(b"REHEARSAL 1\n");
-
-    match start(file) {
-        // "A file refusal prints `FILE n p` (p: byte where the record starts, 0
-        // for refusal 10) before LEVELS."
-        Err(refusal) => file_line(refusal, 0, out),
-        Ok(place) => lines(file, place, &mut record, memory, out),
+    // One line per record.
+    let mut number = 0;
+    let (record, end) = run(file, memory, |_, answer, record| {
+        number += 1;
+        event_line(number, answer, record.count, out);
+    });
+    // "A file refusal prints `FILE n p` (p: byte where the record starts, 0 for
+    // refusal 10) before LEVELS."
+    if let Err((refusal, place)) = end {
+        file_line(refusal, place, out);
     }
     levels_line(&record.levels, out);
-}
-
-/// One line per record, and the FILE line if there is one.
-fn lines(
-    file: &[u8],
-    mut place: usize,
-    record: &mut Record,
-    memory: &mut [u32],
-    out: &mut Vec<u8>,
-) {
-    let mut number = 0;
-    loop {
-        match next(file, place) {
-            Next::End => return,
-            // "A file refusal stops it, and record and memory stay as the
-            // earlier records left them."
-            Next::Refused(refusal, at) => return file_line(refusal, at, out),
-            // "goes on past refused events and lost values"
-            Next::Event(event, after) => {
-                place = after;
-                number += 1;
-                let answer = step(record, memory, &event);
-                event_line(number, &answer, record.count, out);
-            }
-        }
-    }
 }
 
 /// "Fields: record number, the four answers, count after; the register value in

@@ -3,7 +3,7 @@
 //! a kind has no field for are 0.
 
 use crate::event::Event;
-use crate::session::{next, start, Next};
+use crate::session::each_event;
 
 /// "six numbers each"
 pub(crate) const ROW: usize = 6;
@@ -17,17 +17,10 @@ pub(crate) fn whole(rows: &[u32]) -> impl Iterator<Item = &[u32; ROW]> {
 /// "Reading back gives the events": those of a version 1 session file as rows,
 /// or its file refusal.
 pub fn rows_of(file: &[u8]) -> Result<Vec<u32>, u32> {
-    let mut place = start(file)?;
     let mut rows = Vec::new();
-    loop {
-        match next(file, place) {
-            Next::End => return Ok(rows),
-            Next::Refused(refusal, _) => return Err(refusal),
-            Next::Event(event, after) => {
-                place = after;
-                rows.extend_from_slice(&row(&event));
-            }
-        }
+    match each_event(file, |event| rows.extend_from_slice(&row(event))) {
+        Ok(()) => Ok(rows),
+        Err((refusal, _)) => Err(refusal),
     }
 }
 

@@ -4,8 +4,25 @@
 use crate::event::Event;
 use crate::refuse;
 
+/// The events of a file: each is handed on, up to the file's end or up to its
+/// refusal, the number and "byte where the record starts, 0 for refusal 10".
+#[inline]
+pub(crate) fn each_event(file: &[u8], mut each: impl FnMut(&Event)) -> Result<(), (u32, usize)> {
+    let mut place = start(file)?;
+    loop {
+        match next(file, place) {
+            Next::End => return Ok(()),
+            Next::Refused(refusal, at) => return Err((refusal, at)),
+            Next::Event(event, after) => {
+                place = after;
+                each(&event);
+            }
+        }
+    }
+}
+
 /// What stands at a place in the file.
-pub(crate) enum Next {
+enum Next {
     /// The file ends here.
     End,
     /// An event, and the place after its record.
@@ -15,17 +32,18 @@ pub(crate) enum Next {
 }
 
 /// "Byte 01, then records": the place of the first record, or the refusal.
-pub(crate) fn start(file: &[u8]) -> Result<usize, u32> {
+fn start(file: &[u8]) -> Result<usize, (u32, usize)> {
     // "session file empty or its first byte not 01"
     if file.is_empty() || file[0] != 0x01 {
-        return Err(refuse::NO_SESSION);
+        return Err((refuse::NO_SESSION, 0));
     }
     Ok(1)
 }
 
-/// The record at `place`. "then per record 11, length 0 (12), 13, 12"
-#[inline]
-pub(crate) fn next(file: &[u8], place: usize) -> Next {
+/// The record at `place`. "then per record 11, length 0 (12), 13, 12" A call for
+/// each record would cost more than the reading.
+#[inline(always)]
+fn next(file: &[u8], place: usize) -> Next {
     let (high, low, rest) = match &file[place..] {
         [] => return Next::End,
         // "file ends inside a record"

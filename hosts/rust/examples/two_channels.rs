@@ -64,5 +64,24 @@ fn main() -> Result<(), Refusal> {
         let length = nergutsai::list(file, &mut memory, &mut text);
         print!("{}", String::from_utf8_lossy(&text[..length]));
     }
+
+    // And the volts of its first two channels; cut, it has none.
+    for (what, file) in [
+        ("volts", &file[..end]),
+        ("volts of the cut file", &file[..end - 1]),
+    ] {
+        match nergutsai::volts(file, &mut memory) {
+            Err(refusal) => println!("{what:<36} refusal {}  {refusal}", refusal.number()),
+            Ok(table) => {
+                println!("{what:<36} refusal 0  done");
+                for (channel, volts) in table[..2].iter().enumerate() {
+                    println!(
+                        "channel {channel}: lowest {:.16}, highest {:.16}, last {:.16}",
+                        volts.lowest, volts.highest, volts.last
+                    );
+                }
+            }
+        }
+    }
     Ok(())
 }

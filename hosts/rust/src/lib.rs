@@ -1,7 +1,7 @@
 //! The proved model of the PC104P-16AO20 for hosts in Rust: a safe wrapper of `nergutsai_event`,
-//! `nergutsai_rate`, `nergutsai_list` and `nergutsai_write`.
+//! `nergutsai_rate`, `nergutsai_list`, `nergutsai_write` and `nergutsai_volts`.
 //!
-//! The archives libbridge.a, libferry.a and libquay.a are for Linux on x86-64.
+//! The archives libbridge.a, libferry.a, libquay.a and libtide.a are for Linux on x86-64.
 
 mod refusal;
 
@@ -158,6 +158,14 @@ extern "C" {
         place: usize,
         end: *mut usize,
     ) -> u32;
+
+    fn nergutsai_volts(
+        file: *const u8,
+        file_length: usize,
+        memory: *mut u32,
+        memory_length: usize,
+        volts: *mut f32,
+    ) -> u32;
 }
 
 /// The function itself, on numbers: answers 0, or why the call is not understood (hosts/c/nergutsai.h).
@@ -277,5 +285,50 @@ pub fn write(rows: &[u32], output: &mut [u8], place: usize) -> Result<usize, Ref
     match write_call(rows, output, place, &mut end) {
         0 => Ok(end),
         number => Err(Refusal::of(number).expect("the writer has no other number")),
+    }
+}
+
+/// The volts of one channel over a session. They are exact: times 65,536 each is the level less 32,768, times 5, 10 or
+/// 20 for range 0, 1, 2. Zero is positive zero.
+#[derive(Clone, Copy, Debug, PartialEq)]
+pub struct Extremes {
+    /// Never above 0: a power-up puts every channel to 0 volts, and that counts.
+    pub lowest: f32,
+    /// Never below 0.
+    pub highest: f32,
+    /// After the last event.
+    pub last: f32,
+}
+
+/// The table itself, on numbers: answers 0, or the number of the refusal (hosts/c/nergutsai.h), and writes lowest,
+/// highest and last volts of channel 0, then of channel 1, and so on; zeros where it is refused.
+/// Slices of any length may be handed in.
+#[must_use]
+pub fn volts_call(file: &[u8], memory: &mut [u32], volts: &mut [f32; 60]) -> u32 {
+    // The borrows make the two slices and the array valid and apart from each other, which is all that the function asks.
+    unsafe {
+        nergutsai_volts(
+            file.as_ptr(),
+            file.len(),
+            memory.as_mut_ptr(),
+            memory.len(),
+            volts.as_mut_ptr(),
+        )
+    }
+}
+
+/// The lowest, the highest and the last volts of each of the twenty channels over a session file, on a board with this
+/// sample memory. The levels right after an accepted power-up count, and those after each later event; another accepted
+/// power-up starts afresh. The memory is as the run left it, also where the session is refused. A file may have any
+/// length.
+pub fn volts(file: &[u8], memory: &mut [u32]) -> Result<[Extremes; 20], Refusal> {
+    let mut numbers = [0.0; 60];
+    match volts_call(file, memory, &mut numbers) {
+        0 => Ok(std::array::from_fn(|channel| Extremes {
+            lowest: numbers[3 * channel],
+            highest: numbers[3 * channel + 1],
+            last: numbers[3 * channel + 2],
+        })),
+        number => Err(Refusal::of(number).expect("the table has no other number")),
     }
 }

@@ -1,13 +1,14 @@
-//! Why an event was refused, or a session not written.
+//! Why an event was refused, a session not written, or a session file without volts.
 
 use std::error::Error;
 use std::fmt;
 
-/// Why an event was refused, or why `write` wrote nothing.
+/// Why an event was refused, why `write` wrote nothing, or why `volts` has no table.
 ///
 /// A power-up names its first bad setting, in the order of this list. Where several things are wrong with another event,
 /// the lowest number is told, but 3 before 2. Of a session, rows that are not whole events are told first; then the first
-/// bad event decides, its kind before its fields; then the place; then the room.
+/// bad event decides, its kind before its fields; then the place; then the room. Of a session file, what is wrong with
+/// the file is told before a missing power-up.
 #[derive(Clone, Copy, Debug, PartialEq, Eq)]
 pub enum Refusal {
     /// Power-up: the fitted code is not 0 to 15.
@@ -34,7 +35,7 @@ pub enum Refusal {
     NothingToEnd,
     /// The rows are not a multiple of six numbers.
     NotWholeEvents,
-    /// An event begins with a number that is no kind.
+    /// An event begins with a number that is no kind, or a record of a file does.
     UnknownKind,
     /// A field of an event is too large for its bytes, or a number is not 0 though the kind has no field there.
     FieldTooLarge,
@@ -42,10 +43,18 @@ pub enum Refusal {
     PlacePastEnd,
     /// The session does not fit into the output from the place on.
     NoRoom,
+    /// The session file is empty, or its first byte is not 01.
+    NotASession,
+    /// The session file ends inside a record.
+    Cut,
+    /// A record's length is wrong for its kind, or 0.
+    WrongLength,
+    /// No power-up of the session is accepted.
+    NoPowerUp,
 }
 
 impl Refusal {
-    const ALL: [Refusal; 16] = [
+    const ALL: [Refusal; 20] = [
         Refusal::BadFitted,
         Refusal::BadRange,
         Refusal::BadFilter,
@@ -62,9 +71,13 @@ impl Refusal {
         Refusal::FieldTooLarge,
         Refusal::PlacePastEnd,
         Refusal::NoRoom,
+        Refusal::NotASession,
+        Refusal::Cut,
+        Refusal::WrongLength,
+        Refusal::NoPowerUp,
     ];
 
-    /// The refusal number, as an answer has it, or `write_call` answers it.
+    /// The refusal number, as an answer has it, or `write_call` or `volts_call` answers it.
     #[must_use]
     pub fn number(self) -> u32 {
         match self {
@@ -84,6 +97,10 @@ impl Refusal {
             Refusal::FieldTooLarge => 30,
             Refusal::PlacePastEnd => 20,
             Refusal::NoRoom => 21,
+            Refusal::NotASession => 10,
+            Refusal::Cut => 11,
+            Refusal::WrongLength => 12,
+            Refusal::NoPowerUp => 18,
         }
     }
 
@@ -128,6 +145,14 @@ impl fmt::Display for Refusal {
             }
             Refusal::NoRoom => {
                 "the session does not fit from the place on: lend a longer output"
+            }
+            Refusal::NotASession => "the file is no session: its first byte is 01",
+            Refusal::Cut => "the file ends inside a record: hand in the whole of it",
+            Refusal::WrongLength => {
+                "a record's length is wrong for its kind: 7, 6 and 2 for kinds 1 to 3, 1 for 4 to 9"
+            }
+            Refusal::NoPowerUp => {
+                "no power-up is accepted: the listing says why each was refused"
             }
         })
     }
