@@ -1,4 +1,4 @@
--- The bench table and the examples hold, by computation.
+-- The bench table and the examples hold, by computation; cases of other crates are shown so too (`cases-shown`).
 use Prim.Native.Nat.{ℕ}
 use mathlib.Core.Path.{_≡_, refl, ap₂}
 use mathlib.Core.Bool.{Bool, true, false, _&&_, false≢true}
@@ -11,7 +11,7 @@ use Rattle.rules.specs.Examples.{entries, entriesOverJunk, readings, all
 use Rattle.rules.proofs.Choice.{and-both}
 use Rattle.rules.proofs.Open.{rules-open}
 
-alike : List ℕ → List ℕ → Bool
+unfoldable pub alike : List ℕ → List ℕ → Bool
 alike [] [] = true
 alike [] (y ∷ ys) = false
 alike (x ∷ xs) [] = false
@@ -28,11 +28,11 @@ alike-equal (x ∷ xs) (y ∷ ys) h = go (eqb x y) refl h (alike-equal xs ys)
     go true e k r = ap₂ {C = List ℕ} (λ a l. a ∷ l) (eqb-true x y e) (r k)
     go false e k r = absurd (false≢true k)
 
-showing : List Event → List Sight → Bool
+unfoldable pub showing : List Event → List Sight → Bool
 showing es [] = true
 showing es (x ∷ xs) = alike ((x .look) es) (x .numbers) && showing es xs
 
-all-true : List Case → Bool
+unfoldable pub all-true : List Case → Bool
 all-true [] = true
 all-true (c ∷ cs) = showing (c .session) (c .sights) && all-true cs
 
@@ -43,7 +43,7 @@ shown es (x ∷ xs) h =
     let t = and-both (alike ((x .look) es) (x .numbers)) (showing es xs) h in
     next (alike-equal _ _ (t .0)) (shown es xs (t .1))
 
-cases-shown : (cs : List Case) → all-true cs ≡ true → AllCases cs
+pub cases-shown : (cs : List Case) → all-true cs ≡ true → AllCases cs
 unfolding all-true
 cases-shown [] h = none
 cases-shown (c ∷ cs) h =

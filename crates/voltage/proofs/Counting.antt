@@ -3,17 +3,17 @@ use Prim.Native.Nat.{ℕ}
 use mathlib.Core.Path.{_≡_, refl, sym, ap, _∙_, subst}
 use mathlib.Core.Logic.{_⊎_, inl, inr}
 use mathlib.Core.Bool.{Bool, true, false, true≢false, false≢true}
-use mathlib.Core.List.{List, [], _∷_, _++_, map, reverse, reverseAux}
+use mathlib.Core.List.{List, [], _∷_, _++_, reverseAux}
 use borrow.Author.Tests.{eqb-true, eqb-false, eq-eqb, ne-eqb}
 use lib.Dec.{eqb}
-use Rattle.laws.specs.Types.{Settings, Event, powerUp, write, read, signal, tick, Board}
+use Rattle.laws.specs.Types.{Settings, Event, powerUp, write, read, signal, tick}
 use Rattle.rules.specs.Record.{State}
 use Rattle.rules.specs.Step.{Outcome, step}
 use Rattle.rules.specs.Session.{outcomes, after}
-use Rattle.voltage.specs.Counting.{isPowerUp, startsAfresh, also, count, counted}
-use Rattle.voltage.specs.Laws.{Accepted, NoneAccepted, recordsAfter, Counts-since, Counts-none, Range-kept}
-use Rattle.voltage.proofs.Lists.{Each, each-parted}
-use Rattle.voltage.proofs.Playing.{Holds, event-holds, up-holds}
+use Rattle.rules.proofs.Choice.{either, cond-true}
+use Rattle.voltage.specs.Counting.{Counted, nothing, freshly, also, isPowerUp, startsAfresh, count, counted}
+use Rattle.voltage.specs.Laws.{Accepted, NoneAccepted, levelsAfter, Counts-since, Counts-none}
+use Rattle.voltage.proofs.Playing.{up-fresh}
 
 -- ---- An event that starts nothing afresh
 
@@ -32,56 +32,50 @@ pub none-later : (s : State) (e : Event) (es : List Event) → NoneAccepted s (e
 unfolding after
 none-later s e es n before later x h = n (e ∷ before) later x (ap (λ (ds : List Event). e ∷ ds) h)
 
-count-on : (e : Event) (o : Outcome) (seen : List Board) → startsAfresh e o ≡ false → count e o seen ≡ also (o .state .board) seen
-unfolding count
-count-on e o seen h = rw h
+abbrev levelsOf : Outcome → List ℕ
+levelsOf o = o .state .board .core .outputs .levels
 
-pub count-up : (x : Settings) (o : Outcome) (seen : List Board) → o .answer .refusal ≡ 0 → count (powerUp x) o seen ≡ o .state .board ∷ []
-unfolding count isPowerUp
-count-up x o seen h = rw (eq-eqb _ 0 h)
+count-on : (e : Event) (o : Outcome) (w : Counted) → startsAfresh e o ≡ false → count e o w ≡ record { range = w .range; levels = also (levelsOf o) (w .levels) }
+unfolding count
+count-on e o w h = rw h
+
+count-fresh : (e : Event) (o : Outcome) (w : Counted) → startsAfresh e o ≡ true → count e o w ≡ freshly (o .state .board)
+unfolding count
+count-fresh e o w h = cond-true _ _ _ h
+
+count-up : (s : State) (x : Settings) (w : Counted) → Accepted s x
+    → count (powerUp x) (step s (powerUp x)) w ≡ record { range = x .range; levels = levelsOf (step s (powerUp x)) ∷ [] }
+unfolding isPowerUp
+count-up s x w h =
+    count-fresh (powerUp x) (step s (powerUp x)) w (eq-eqb _ 0 h)
+    ∙ (λ i. record { range = (up-fresh s x h) .range i; levels = levelsOf (step s (powerUp x)) ∷ [] })
 
 -- ---- The laws
 
-none-counted : (s : State) (es : List Event) → NoneAccepted s es → counted [] s es ≡ []
-unfolding counted
+none-counted : (s : State) (es : List Event) → NoneAccepted s es → counted nothing s es ≡ nothing
+unfolding counted also
 none-counted s [] n = refl
 none-counted s (e ∷ es) n =
-    ap (λ (bs : List Board). counted bs ((step s e) .state) es) (count-on e (step s e) [] (none-first s e es n))
+    ap (λ (w : Counted). counted w ((step s e) .state) es) (count-on e (step s e) nothing (none-first s e es n))
     ∙ none-counted ((step s e) .state) es (none-later s e es n)
 
 pub counts-none : Counts-none
 counts-none = none-counted
 
-later-counted : (b : Board) (bs : List Board) (s : State) (es : List Event) → NoneAccepted s es
-    → counted (b ∷ bs) s es ≡ reverseAux (recordsAfter s es) (b ∷ bs)
-unfolding counted outcomes
-later-counted b bs s [] n = refl
-later-counted b bs s (e ∷ es) n =
-    ap (λ (cs : List Board). counted cs ((step s e) .state) es) (count-on e (step s e) (b ∷ bs) (none-first s e es n))
-    ∙ later-counted _ (b ∷ bs) ((step s e) .state) es (none-later s e es n)
+later-counted : (r : ℕ) (x : List ℕ) (xs : List (List ℕ)) (s : State) (es : List Event) → NoneAccepted s es
+    → counted (record { range = r; levels = x ∷ xs }) s es ≡ record { range = r; levels = reverseAux (levelsAfter s es) (x ∷ xs) }
+unfolding counted also outcomes
+later-counted r x xs s [] n = refl
+later-counted r x xs s (e ∷ es) n =
+    ap (λ (w : Counted). counted w ((step s e) .state) es) (count-on e (step s e) _ (none-first s e es n))
+    ∙ later-counted r _ (x ∷ xs) ((step s e) .state) es (none-later s e es n)
 
 pub counts-since : Counts-since
 unfolding counted after outcomes
-counts-since seen s [] later x a n =
-    ap (λ (bs : List Board). counted bs ((step s (powerUp x)) .state) later) (count-up x (step s (powerUp x)) seen a)
-    ∙ later-counted _ [] ((step s (powerUp x)) .state) later n
-counts-since seen s (e ∷ before) later x a n = counts-since (count e (step s e) seen) ((step s e) .state) before later x a n
-
--- ---- The range
-
-records-hold : (r : ℕ) (s : State) (es : List Event) → Holds r (s .board .core) → NoneAccepted s es
-    → Each (λ (b : Board). Holds r (b .core)) (recordsAfter s es)
-unfolding outcomes
-records-hold r s [] h n = tt
-records-hold r s (e ∷ es) h n =
-    let k = event-holds r s e (none-first s e es n) h in
-    (k, records-hold r ((step s e) .state) es k (none-later s e es n))
-
-pub range-kept : Range-kept
-unfolding outcomes
-range-kept s later x a n us ws b h =
-    let k = up-holds s x a in
-    (each-parted (λ (b : Board). Holds (x .range) (b .core)) _ us ws b h (k, records-hold (x .range) _ later k n)) .0
+counts-since w s [] later x a n =
+    ap (λ (v : Counted). counted v ((step s (powerUp x)) .state) later) (count-up s x w a)
+    ∙ later-counted (x .range) _ [] ((step s (powerUp x)) .state) later n
+counts-since w s (e ∷ before) later x a n = counts-since (count e (step s e) w) ((step s e) .state) before later x a n
 
 -- ---- Some power-up is accepted, or none is
 
@@ -158,25 +152,26 @@ powered-or-not s (e ∷ es) = go (startsAfresh e (step s e)) refl (powered-or-no
 
 -- ---- Once something counts, something does
 
-abbrev pub Some : List Board → Type 0
-Some bs = (c : Board) × (cs : List Board) × (bs ≡ c ∷ cs)
+abbrev pub Some : List (List ℕ) → Type 0
+Some xs = (y : List ℕ) × (ys : List (List ℕ)) × (xs ≡ y ∷ ys)
 
-count-some : (e : Event) (o : Outcome) (b : Board) (bs : List Board) → Some (count e o (b ∷ bs))
+also-some : (x : List ℕ) (xs : List (List ℕ)) → Some xs → Some (also x xs)
+unfolding also
+also-some x [] h = h
+also-some x (y ∷ ys) h = (x, y ∷ ys, refl)
+
+count-some : (e : Event) (o : Outcome) (w : Counted) → Some (w .levels) → Some ((count e o w) .levels)
 unfolding count
-count-some e o b bs = go (startsAfresh e o)
-  where
-    go : (t : Bool) → Some (mathlib.Core.Bool.cond t (o .state .board ∷ []) (o .state .board ∷ b ∷ bs))
-    go true = (_, _, refl)
-    go false = (_, _, refl)
+count-some e o w h = either (λ (v : Counted). Some (v .levels)) (startsAfresh e o) (_, _, refl) (also-some (levelsOf o) (w .levels) h)
 
-counted-on : (seen : List Board) (s : State) (es : List Event) → Some seen → Some (counted seen s es)
+counted-on : (w : Counted) (s : State) (es : List Event) → Some (w .levels) → Some ((counted w s es) .levels)
 unfolding counted
-counted-on seen s [] k = k
-counted-on seen s (e ∷ es) k =
-    counted-on _ ((step s e) .state) es (subst (λ (bs : List Board). Some (count e (step s e) bs)) (sym (k .2)) (count-some e (step s e) (k .0) (k .1)))
+counted-on w s [] h = h
+counted-on w s (e ∷ es) h = counted-on (count e (step s e) w) ((step s e) .state) es (count-some e (step s e) w h)
 
-pub counted-some : (seen : List Board) (s : State) (before later : List Event) (x : Settings) → Accepted (after s before) x
-    → Some (counted seen s (before ++ (powerUp x ∷ later)))
+pub counted-some : (w : Counted) (s : State) (before later : List Event) (x : Settings) → Accepted (after s before) x
+    → Some ((counted w s (before ++ (powerUp x ∷ later))) .levels)
 unfolding counted after
-counted-some seen s [] later x a = counted-on _ ((step s (powerUp x)) .state) later (_, _, count-up x (step s (powerUp x)) seen a)
-counted-some seen s (e ∷ before) later x a = counted-some (count e (step s e) seen) ((step s e) .state) before later x a
+counted-some w s [] later x a =
+    counted-on _ ((step s (powerUp x)) .state) later (_, _, ap (λ (v : Counted). v .levels) (count-up s x w a))
+counted-some w s (e ∷ before) later x a = counted-some (count e (step s e) w) ((step s e) .state) before later x a

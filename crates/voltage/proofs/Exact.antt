@@ -50,9 +50,15 @@ below-value range level l =
 exactly : (range level : ℕ) → level < 65536 → Exact (factor range) level (voltsOf range level)
 exactly range level h = record { above = above-value range level h; below = below-value range level }
 
-pub volts-exact : Volts-exact
+factors : (factor 0 ≡ 5) × (factor 1 ≡ 10) × (factor 2 ≡ 20)
 unfolding factor
-volts-exact level h = (exactly 0 level h, exactly 1 level h, exactly 2 level h)
+factors = (refl, refl, refl)
+
+pub volts-exact : Volts-exact
+volts-exact level h = (of 0 5 (factors .0), of 1 10 (factors .1), of 2 20 (factors .2))
+  where
+    of : (range k : ℕ) → factor range ≡ k → Exact k level (voltsOf range level)
+    of range k e = subst (λ (n : ℕ). Exact n level (voltsOf range level)) e (exactly range level h)
 
 pub volts-height : (range level : ℕ) → level < 65536 → (h : ℕ) × Height (voltsOf range level) h
 volts-height range level h = go (ltb level 32768) refl

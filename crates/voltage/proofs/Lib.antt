@@ -6,3 +6,4 @@ pub mod Playing
 pub mod Counting
 pub mod Bounds
 pub mod Tables
+pub mod Examples

@@ -1,8 +1,7 @@
 -- The table once more, in other words than the definitions. Proofs are in proofs/.
 --   Volts-exact     times 65,536 the volts are the level less 32,768, times 5, 10 or 20; nothing is rounded
---   Counts-since    what counts after an accepted power-up that no other follows, whatever came before it
+--   Counts-since    what counts after an accepted power-up that no other follows, whatever came before it, and in which range
 --   Counts-none     nothing counts where no power-up is accepted
---   Range-kept      all that counts has the range of that power-up
 --   Table-exactly   a session gets each refusal number, or none, exactly when 02 says so
 --   Table-refused   a refused session has sixty positive zeros
 --   Table-bounds    lowest and highest are reached, nothing that counted lies outside, the last is the last
@@ -18,7 +17,6 @@ use lib.Ieee.Exact.{HasValue}
 use Rattle.rules.specs.declared.Settings.{Settings}
 use Rattle.rules.specs.declared.Event.{Event}
 use Rattle.rules.specs.declared.Event.the-variants.{PowerUp as powerUp}
-use Rattle.rules.specs.declared.Board.{Board}
 use Rattle.rules.specs.Record.{State, start}
 use Rattle.rules.specs.Step.{Outcome, step}
 use Rattle.rules.specs.Session.{outcomes, after}
@@ -27,8 +25,8 @@ use Rattle.files.specs.declared.End.the-variants.{File, Refused}
 use Rattle.files.specs.File.{Session, session, faultNumber}
 use Rattle.voltage.specs.declared.Extremes.{Extremes}
 use Rattle.voltage.specs.Volts.{voltsOf, zeroVolts}
-use Rattle.voltage.specs.Counting.{counted}
-use Rattle.voltage.specs.Table.{voltsAt, extremesOf, countedIn, tableRefusal, tableChannels}
+use Rattle.voltage.specs.Counting.{Counted, nothing, counted}
+use Rattle.voltage.specs.Table.{voltsAt, countedIn, tableRefusal, tableChannels}
 
 -- ---- Volts
 
@@ -50,30 +48,20 @@ Accepted s x = (step s (powerUp x)) .answer .refusal ≡ 0
 abbrev pub NoneAccepted : State → List Event → Type 0
 NoneAccepted s es = (before later : List Event) (x : Settings) → es ≡ before ++ (powerUp x ∷ later) → ¬ Accepted (after s before) x
 
--- the records right after each event
-abbrev pub recordsAfter : State → List Event → List Board
-recordsAfter s es = map (λ (o : Outcome). o .state .board) (outcomes s es)
+-- the levels right after each event
+abbrev pub levelsAfter : State → List Event → List (List ℕ)
+levelsAfter s es = map (λ (o : Outcome). o .state .board .core .outputs .levels) (outcomes s es)
 
 -- 02: "Levels right after an accepted power-up and after each later event count; another accepted power-up starts afresh."
 abbrev pub Counts-since : Type 0
 Counts-since =
-    (seen : List Board) (s : State) (before later : List Event) (x : Settings)
+    (w : Counted) (s : State) (before later : List Event) (x : Settings)
     → Accepted (after s before) x
     → NoneAccepted ((step (after s before) (powerUp x)) .state) later
-    → counted seen s (before ++ (powerUp x ∷ later)) ≡ reverse (recordsAfter (after s before) (powerUp x ∷ later))
+    → counted w s (before ++ (powerUp x ∷ later)) ≡ record { range = x .range; levels = reverse (levelsAfter (after s before) (powerUp x ∷ later)) }
 
 abbrev pub Counts-none : Type 0
-Counts-none = (s : State) (es : List Event) → NoneAccepted s es → counted [] s es ≡ []
-
--- a refused power-up keeps the range too
-abbrev pub Range-kept : Type 0
-Range-kept =
-    (s : State) (later : List Event) (x : Settings)
-    → Accepted s x
-    → NoneAccepted ((step s (powerUp x)) .state) later
-    → (us ws : List Board) (b : Board)
-    → recordsAfter s (powerUp x ∷ later) ≡ us ++ (b ∷ ws)
-    → b .core .options .range ≡ x .range
+Counts-none = (s : State) (es : List Event) → NoneAccepted s es → counted nothing s es ≡ nothing
 
 -- ---- Refusals
 
@@ -121,7 +109,7 @@ Table-bounds =
     (s m : List ℕ) (k : ℕ)
     → k < 20
     → tableRefusal s m ≡ 0
-    → Bounds (map (voltsAt k) (countedIn s m)) (getD (tableChannels s m) k zeros)
+    → Bounds (voltsAt k (countedIn s m)) (getD (tableChannels s m) k zeros)
 
 -- 02: "Zero is positive zero.", also where it comes back from below
 abbrev pub Zero-positive : Type 0

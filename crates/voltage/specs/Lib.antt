@@ -3,3 +3,4 @@ pub mod Counting
 pub mod Extremes
 pub mod Table
 pub mod Laws
+pub mod Examples

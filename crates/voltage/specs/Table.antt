@@ -7,54 +7,53 @@ use mathlib.Core.List.{List, [], _∷_, map}
 use lib.Dec.{eqb}
 use lib.ListN.{getD}
 use lib.Ieee.{Float}
-use Rattle.rules.specs.declared.Board.{Board}
 use Rattle.rules.specs.Record.{start}
 use Rattle.files.specs.File.{Session, session, verdict}
 use Rattle.voltage.specs.declared.Extremes.{Extremes}
 use Rattle.voltage.specs.Volts.{voltsOf}
-use Rattle.voltage.specs.Counting.{counted}
+use Rattle.voltage.specs.Counting.{Counted, nothing, counted}
 use Rattle.voltage.specs.Extremes.{lowestOf, highestOf, lastOf}
 
 -- ---- A channel
 
--- the volts of the channel k, by the record's own range
-unfoldable pub voltsAt : ℕ → Board → Float
-voltsAt k b = voltsOf (b .core .options .range) (getD (b .core .outputs .levels) k 0)
+-- the volts of the channel k each time that they count, the latest first
+abbrev pub voltsAt : ℕ → Counted → List Float
+voltsAt k w = map (λ (levels : List ℕ). voltsOf (w .range) (getD levels k 0)) (w .levels)
 
 abbrev pub extremesOf : List Float → Extremes
 extremesOf vs = record { lowest = lowestOf vs; highest = highestOf vs; last = lastOf vs }
 
-unfoldable pub channel : List Board → ℕ → Extremes
-channel bs k = extremesOf (map (voltsAt k) bs)
+unfoldable pub channel : Counted → ℕ → Extremes
+channel w k = extremesOf (voltsAt k w)
 
 -- ---- Twenty of them
 
 -- n channels from the channel k on
-unfoldable pub channelsFrom : ℕ → ℕ → List Board → List Extremes
-channelsFrom zero k bs = []
-channelsFrom (suc n) k bs = channel bs k ∷ channelsFrom n (suc k) bs
+unfoldable pub channelsFrom : ℕ → ℕ → Counted → List Extremes
+channelsFrom zero k w = []
+channelsFrom (suc n) k w = channel w k ∷ channelsFrom n (suc k) w
 
 -- 02: "one record per channel". 01 keeps twenty levels, whichever channels are fitted. Where nothing counted, all are zeros.
-abbrev pub channelsOf : List Board → List Extremes
-channelsOf bs = channelsFrom 20 0 bs
+abbrev pub channelsOf : Counted → List Extremes
+channelsOf w = channelsFrom 20 0 w
 
 -- ---- A session
 
--- the records that count in a session file, from the unpowered record over the sample memory m
-unfoldable pub countedIn : List ℕ → List ℕ → List Board
-countedIn s m = counted [] (start m) ((session s) .events)
+-- what counts in a session file, run from the unpowered record over the sample memory m
+unfoldable pub countedIn : List ℕ → List ℕ → Counted
+countedIn s m = counted nothing (start m) ((session s) .events)
 
 -- 02: "18 when the session has no accepted power-up"
-abbrev pub powerRefusal : List Board → ℕ
+abbrev pub powerRefusal : List (List ℕ) → ℕ
 powerRefusal [] = 18
-powerRefusal (b ∷ bs) = 0
+powerRefusal (x ∷ xs) = 0
 
 -- 02: "file refusals 10 to 13 come first"
 unfoldable pub tableRefusal : List ℕ → List ℕ → ℕ
 tableRefusal s m =
     let file : ℕ = (verdict ((session s) .end)) .number in
-    cond (eqb file 0) (powerRefusal (countedIn s m)) file
+    cond (eqb file 0) (powerRefusal ((countedIn s m) .levels)) file
 
 -- 02: "all of them return all zeros"
 unfoldable pub tableChannels : List ℕ → List ℕ → List Extremes
-tableChannels s m = channelsOf (cond (eqb (tableRefusal s m) 0) (countedIn s m) [])
+tableChannels s m = channelsOf (cond (eqb (tableRefusal s m) 0) (countedIn s m) nothing)

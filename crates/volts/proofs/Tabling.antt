@@ -1,24 +1,40 @@
--- What `volts` makes of a session: the memory that its events leave, the records that count, and how it ends.
-use mathlib.Core.Path.{_≡_, refl}
+-- What `volts` makes of a session: the memory that its events leave, what counts, and how it ends. The loop is on its way (specs/Way.antt
+-- of `run`) with the state and with what counted so far, whose table it holds.
+use Prim.Native.Nat.{ℕ}
+use mathlib.Core.Path.{_≡_, refl, sym, ap, subst, _∙_}
 use mathlib.Core.List.{List, []}
+use lib.ListN.{length}
 use Rattle.rules.specs.declared.Event.{Event}
 use Rattle.rules.specs.declared.Board.{Board}
-use Rattle.rules.specs.Record.{State}
+use Rattle.rules.specs.Record.{State, stateOf, unpowered, start}
 use Rattle.rules.specs.Step.{step}
 use Rattle.rules.specs.Session.{after}
 use Rattle.files.specs.declared.End.{End}
-use Rattle.files.specs.File.{Session}
-use Rattle.run.specs.Way.{Passes}
-use Rattle.voltage.specs.Counting.{count, counted}
+use Rattle.files.specs.File.{Session, session}
+use Rattle.run.specs.declared.Cursor.{Cursor}
+use Rattle.run.specs.declared.Ahead.the-variants.{Found, Over}
+use Rattle.run.specs.Run.{found}
+use Rattle.run.specs.Way.{Way, Passes}
+use Rattle.run.proofs.Ways.{way-start, way-on, way-over}
+use Rattle.voltage.specs.declared.Table.{Table}
+use Rattle.voltage.specs.Counting.{Counted, nothing, count, counted}
+use Rattle.voltage.specs.Table.{countedIn}
+use Rattle.volts.specs.declared.Observed.{Observed}
+use Rattle.volts.specs.Watching.{refusedTable, tableOf, closedTable}
+use Rattle.volts.specs.Observing.{Observes}
+use Rattle.volts.specs.Promises.{Tabled}
+use Rattle.volts.proofs.Watching.{closed-told}
+use Rattle.volts.proofs.Ranges.{Fits, start-fits, range-kept, fits-on}
 
--- what the loop holds: the state, and what counted so far
+-- ---- What comes of a session
+
 pub record Stage : Type 0 where
   pub state : State
-  pub seen : List Board
+  pub seen : Counted
 
 pub record Finish : Type 0 where
   pub state : State
-  pub seen : List Board
+  pub seen : Counted
   pub end : End
 
 pub record Counts (o : Finish) (a : Stage) (x : Session) : Type 0 where
@@ -26,15 +42,72 @@ pub record Counts (o : Finish) (a : Stage) (x : Session) : Type 0 where
   pub seen : o .seen ≡ counted (a .seen) (a .state) (x .events)
   pub end : o .end ≡ x .end
 
-abbrev pub onward : Stage → Event → Stage
+abbrev onward : Stage → Event → Stage
 onward a e = record { state = (step (a .state) e) .state; seen = count e (step (a .state) e) (a .seen) }
 
 -- an event that is played
-pub played : (a : Stage) (e : Event) → Passes Counts a e (onward a e)
+played : (a : Stage) (e : Event) → Passes Counts a e (onward a e)
 unfolding after counted
 played a e o x g = record { state = g .state; seen = g .seen; end = g .end }
 
 -- and the end of the file
-pub ended : (a : Stage) (x : End) → Counts (record { state = a .state; seen = a .seen; end = x }) a (record { events = []; end = x })
+ended : (a : Stage) (x : End) → Counts (record { state = a .state; seen = a .seen; end = x }) a (record { events = []; end = x })
 unfolding after counted
 ended a x = record { state = refl; seen = refl; end = refl }
+
+-- ---- The loop
+
+abbrev pub stageOf : Board → List ℕ → Counted → Stage
+stageOf b m w = record { state = stateOf b m; seen = w }
+
+abbrev pub OnWay : (s m : List ℕ) → Stage → Cursor → Type 0
+OnWay s m a c = Way Counts s (stageOf unpowered m nothing) a c
+
+-- it stands at the cursor c of the file s with the board b, its memory and the table t; m is the memory at the start
+pub record Running (s m memory : List ℕ) (b : Board) (c : Cursor) (t : Table) : Type 0 where
+  pub long : length memory ≡ length m
+  pub seen : Counted
+  pub table : t ≡ tableOf seen
+  pub fits : Fits seen b
+  pub way : OnWay s m (stageOf b memory seen) c
+
+pub running-start : (s m : List ℕ) (b : Board) (t : Table) → b ≡ unpowered → t ≡ refusedTable 18 → Running s m m b (record { place = 0 }) t
+running-start s m b t e h =
+    record {
+      long = refl;
+      seen = nothing;
+      table = h;
+      fits = subst (Fits nothing) (sym e) (start-fits m);
+      way = subst (λ (x : Board). OnWay s m (stageOf x m nothing) (record { place = 0 })) (sym e) (way-start Finish Stage Counts s (stageOf unpowered m nothing));
+    }
+
+module _ {s m memory : List ℕ} {b : Board} {c : Cursor} {t : Table} (r : Running s m memory b c t) where
+  here : Stage
+  here = stageOf b memory (r .seen)
+
+  pub running-on : (e : Event) (after : Cursor) (o : Observed) (memory′ : List ℕ) → found s c ≡ Found e after → Observes t b memory e o memory′
+      → length memory′ ≡ length memory
+      → Running s m memory′ (o .board) after (o .table)
+  unfolding here
+  running-on e after o memory′ f p l =
+      let on = way-on Finish Stage Counts s (stageOf unpowered m nothing) here (onward here e) c after e (r .way) f (played here e) in
+      let w = (onward here e) .seen in
+      record {
+        long = l ∙ r .long;
+        seen = w;
+        table = p .table (r .seen) (r .table) (range-kept (stateOf b memory) e (r .seen) (r .fits));
+        fits = subst (Fits w) (sym (p .board)) (fits-on (stateOf b memory) e (r .seen) (r .fits));
+        way = subst (λ (x : Stage). OnWay s m x after) (λ i. stageOf (sym (p .board) i) (sym (p .memory) i) w) on;
+      }
+
+  pub running-over : (end : End) (x : Table) → found s c ≡ Over end → x ≡ closedTable t end → Tabled s m x memory
+  unfolding here countedIn
+  running-over end x f h =
+      let o = way-over Finish Stage Counts s (stageOf unpowered m nothing) here c end (record { state = here .state; seen = here .seen; end = end }) (r .way) f (ended here end) in
+      let told = closed-told s m ((session s) .end) refl in
+      let q : x ≡ closedTable (tableOf (countedIn s m)) ((session s) .end) = h ∙ (λ i. closedTable (r .table i) end) ∙ (λ i. closedTable (tableOf (o .seen i)) (o .end i)) in
+      record {
+        refusal = ap (λ (y : Table). y .refusal) q ∙ told .0;
+        channels = ap (λ (y : Table). y .channels) q ∙ told .1;
+        memory = ap (λ (y : State). y .memory) (o .state);
+      }

@@ -12,68 +12,94 @@ use Rattle.files.specs.declared.End.the-variants.{File, Refused}
 use Rattle.files.specs.File.{session}
 use Rattle.voltage.specs.declared.Extremes.{Extremes}
 use Rattle.voltage.specs.declared.Table.{Table}
+use Rattle.voltage.specs.Volts.{voltsOf}
+use Rattle.voltage.specs.Counting.{Counted, nothing, also}
 use Rattle.voltage.specs.Extremes.{picked, lastOf}
-use Rattle.voltage.specs.Table.{voltsAt, channel, channelsFrom, channelsOf, countedIn, powerRefusal, tableRefusal, tableChannels}
+use Rattle.voltage.specs.Table.{channel, channelsFrom, channelsOf, countedIn, powerRefusal, tableRefusal, tableChannels}
 use Rattle.voltage.proofs.Tables.{fault-some, file-refused, file-ended, channels-by, channel-at}
 use Rattle.volts.specs.Watching.{none, entered, AllEntered, tableOf, watched, closedTable, RecordEntered}
 use Rattle.volts.proofs.Entries.{same-entries}
 
 -- ---- One more record
 
-twenty : (bs : List Board) → length (channelsOf bs) ≡ 20
+twenty : (w : Counted) → length (channelsOf w) ≡ 20
 unfolding channelsFrom
-twenty bs = refl
+twenty w = refl
+
+abbrev what : ℕ → List (List ℕ) → Counted
+what r xs = record { range = r; levels = xs }
+
+-- something counted, in the record's range
+abbrev Ready : Board → Counted → Type 0
+Ready b w = (powerRefusal (w .levels) ≡ 0) × (b .core .options .range ≡ w .range)
 
 -- a channel's three numbers with those of one more record
-one-more : (fresh : Bool) (b : Board) (seen : List Board) (k : ℕ) → (fresh ≡ false → powerRefusal seen ≡ 0)
-    → entered fresh (channel seen k) (voltsAt k b) ≡ channel (watched fresh b seen) k
-unfolding channel picked lastOf
-one-more true b seen k h = refl
-one-more false b [] k h = absurd (omega (arith, h refl))
-one-more false b (x ∷ xs) k h = refl
+one-more : (fresh : Bool) (b : Board) (r : ℕ) (xs : List (List ℕ)) (k : ℕ)
+    → (fresh ≡ false → Ready b (what r xs))
+    → entered fresh (channel (what r xs) k) (voltsOf (b .core .options .range) (getD (b .core .outputs .levels) k 0)) ≡ channel (watched fresh b (what r xs)) k
+unfolding channel picked lastOf also
+one-more true b r xs k h = refl
+one-more false b r [] k h = absurd (omega (arith, h refl .0))
+one-more false b r (x ∷ xs) k h =
+    let v = getD (b .core .outputs .levels) k 0 in
+    ap (λ (q : ℕ). entered false (channel (what r (x ∷ xs)) k) (voltsOf q v)) (h refl .1)
 
-something : (fresh : Bool) (b : Board) (seen : List Board) → (fresh ≡ false → powerRefusal seen ≡ 0) → 0 ≡ powerRefusal (watched fresh b seen)
-something true b seen h = refl
-something false b [] h = absurd (omega (arith, h refl))
-something false b (x ∷ xs) h = refl
+something : (fresh : Bool) (b : Board) (r : ℕ) (xs : List (List ℕ)) → (fresh ≡ false → Ready b (what r xs))
+    → 0 ≡ powerRefusal ((watched fresh b (what r xs)) .levels)
+unfolding also
+something true b r xs h = refl
+something false b r [] h = absurd (omega (arith, h refl .0))
+something false b r (x ∷ xs) h = refl
 
 pub record-entered : (fresh : Bool) (b : Board) (ts r : List Extremes)
     → AllEntered fresh ts (b .core .options .range) (b .core .outputs .levels) r
     → RecordEntered fresh b ts (record { refusal = 0; channels = r })
-unfolding voltsAt
-record-entered fresh b ts r a seen e h =
-    let q = same-entries r (channelsOf (watched fresh b seen)) (a .twenty ∙ sym (twenty (watched fresh b seen))) (λ k l. go k (subst (λ (n : ℕ). k < n) (a .twenty) l)) in
-    let z = something fresh b seen h in
+record-entered fresh b ts r a w e h =
+    let q = same-entries r (channelsOf (watched fresh b w)) (a .twenty ∙ sym (twenty (watched fresh b w))) (λ k l. go k (subst (λ (n : ℕ). k < n) (a .twenty) l)) in
+    let z = something fresh b (w .range) (w .levels) h in
     λ i. record { refusal = z i; channels = q i }
   where
-    go : (k : ℕ) → k < 20 → getD r k none ≡ getD (channelsOf (watched fresh b seen)) k none
+    go : (k : ℕ) → k < 20 → getD r k none ≡ getD (channelsOf (watched fresh b w)) k none
     go k l =
+        let v = voltsOf (b .core .options .range) (getD (b .core .outputs .levels) k 0) in
         a .each k l
-        ∙ ap (λ (x : Extremes). entered fresh x (voltsAt k b)) (ap (λ (xs : List Extremes). getD xs k none) e ∙ channel-at seen k none l)
-        ∙ one-more fresh b seen k h
-        ∙ sym (channel-at (watched fresh b seen) k none l)
+        ∙ ap (λ (x : Extremes). entered fresh x v) (ap (λ (xs : List Extremes). getD xs k none) e ∙ channel-at w k none l)
+        ∙ one-more fresh b (w .range) (w .levels) k h
+        ∙ sym (channel-at (watched fresh b w) k none l)
 
 -- ---- Before the first accepted power-up
 
-pub nothing-yet : (fresh : Bool) (b : Board) (seen : List Board) → not fresh && not (eqb (powerRefusal seen) 0) ≡ true → seen ≡ watched fresh b seen
-nothing-yet true b seen h = absurd (false≢true h)
-nothing-yet false b [] h = refl
-nothing-yet false b (x ∷ xs) h = absurd (false≢true h)
+-- the test by which `watch` leaves the table as it is
+abbrev pub idle : Bool → ℕ → Bool
+idle fresh n = not fresh && not (eqb n 0)
 
-pub something-yet : (fresh : Bool) (seen : List Board) → not fresh && not (eqb (powerRefusal seen) 0) ≡ false → fresh ≡ false → powerRefusal seen ≡ 0
-something-yet true seen h f = absurd (true≢false f)
+pub nothing-yet : (fresh : Bool) (b : Board) (w : Counted) → idle fresh (powerRefusal (w .levels)) ≡ true → w ≡ watched fresh b w
+unfolding also
+nothing-yet fresh b w = go fresh (w .levels) refl
+  where
+    go : (t : Bool) (xs : List (List ℕ)) → w .levels ≡ xs → idle t (powerRefusal xs) ≡ true → w ≡ watched t b w
+    go true xs e h = absurd (false≢true h)
+    go false [] e h = λ i. record { range = w .range; levels = (e ∙ sym (ap (also (b .core .outputs .levels)) e)) i }
+    go false (x ∷ xs) e h = absurd (false≢true h)
+
+pub something-yet : (fresh : Bool) (xs : List (List ℕ)) → idle fresh (powerRefusal xs) ≡ false → fresh ≡ false → powerRefusal xs ≡ 0
+something-yet true xs h f = absurd (true≢false f)
 something-yet false [] h f = absurd (true≢false h)
 something-yet false (x ∷ xs) h f = refl
 
 -- ---- The end of the file
 
+as-they-are : (r : ℕ) (xs : List (List ℕ)) → channelsOf (cond (eqb (powerRefusal xs) 0) (what r xs) nothing) ≡ channelsOf (what r xs)
+unfolding channelsFrom channel
+as-they-are r [] = refl
+as-they-are r (x ∷ xs) = refl
+
 pub closed-told : (s m : List ℕ) (x : End) → (session s) .end ≡ x
     → let t : Table = closedTable (tableOf (countedIn s m)) x in (t .refusal ≡ tableRefusal s m) × (t .channels ≡ tableChannels s m)
 closed-told s m File h =
-    (sym (file-ended s m h), sym (channels-by s m _ (file-ended s m h) ∙ ap channelsOf (as-they-are (countedIn s m))))
-  where
-    as-they-are : (bs : List Board) → cond (eqb (powerRefusal bs) 0) bs [] ≡ bs
-    as-they-are [] = refl
-    as-they-are (b ∷ bs) = refl
-closed-told s m (Refused why p) h =
-    (sym (file-refused s m why p h), sym (channels-by s m _ (file-refused s m why p h) ∙ ap (λ (t : Bool). channelsOf (cond t (countedIn s m) [])) (fault-some why)))
+    let w = countedIn s m in
+    (sym (file-ended s m h), sym (channels-by s m _ (file-ended s m h) ∙ as-they-are (w .range) (w .levels)))
+closed-told s m (Refused why p) h = (
+  sym (file-refused s m why p h),
+  sym (channels-by s m _ (file-refused s m why p h) ∙ ap (λ (t : Bool). channelsOf (cond t (countedIn s m) nothing)) (fault-some why)),
+)

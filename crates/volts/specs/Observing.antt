@@ -1,18 +1,21 @@
 -- What one event makes of the board, the memory and the table.
 use Prim.Native.Nat.{ℕ}
 use mathlib.Core.Path.{_≡_}
+use mathlib.Core.Bool.{false}
 use mathlib.Core.List.{List}
 use Rattle.rules.specs.declared.Event.{Event}
 use Rattle.rules.specs.declared.Board.{Board}
 use Rattle.rules.specs.Record.{stateOf}
 use Rattle.rules.specs.Step.{step}
 use Rattle.voltage.specs.declared.Table.{Table}
-use Rattle.voltage.specs.Counting.{count}
+use Rattle.voltage.specs.Counting.{Counted, startsAfresh, count}
 use Rattle.volts.specs.declared.Observed.{Observed}
-use Rattle.volts.specs.Watching.{tableOf}
+use Rattle.volts.specs.Watching.{tableOf, SameRange}
 
 pub record Observes (t : Table) (b : Board) (m : List ℕ) (e : Event) (r : Observed) (m′ : List ℕ) : Type 0 where
   pub board : r .board ≡ (step (stateOf b m) e) .state .board
   pub memory : m′ ≡ (step (stateOf b m) e) .state .memory
-  -- whatever counted before
-  pub table : (seen : List Board) → t ≡ tableOf seen → r .table ≡ tableOf (count e (step (stateOf b m) e) seen)
+  -- whatever counted before, in the range that the record has
+  pub table : (w : Counted) → t ≡ tableOf w
+      → (startsAfresh e (step (stateOf b m) e) ≡ false → SameRange w ((step (stateOf b m) e) .state .board))
+      → r .table ≡ tableOf (count e (step (stateOf b m) e) w)

@@ -1,6 +1,6 @@
 -- A table as the loop holds it, and what an event makes of it.
---   tableOf seen          the table of the records that counted so far
---   watched fresh b seen  those that count when an event has left b; `fresh` says that it is an accepted power-up
+--   tableOf w             the table of what counted so far
+--   watched fresh b w     what counts when an event has left b; `fresh` says that it is an accepted power-up
 --   entered fresh x v     a channel's three numbers, when it has the volts v
 --   closedTable t end     the table when the file ends so
 use Prim.Native.Nat.{ℕ, _<_}
@@ -16,7 +16,7 @@ use Rattle.files.specs.File.{faultNumber}
 use Rattle.voltage.specs.declared.Extremes.{Extremes}
 use Rattle.voltage.specs.declared.Table.{Table}
 use Rattle.voltage.specs.Volts.{voltsOf}
-use Rattle.voltage.specs.Counting.{also}
+use Rattle.voltage.specs.Counting.{Counted, nothing, freshly, also}
 use Rattle.voltage.specs.Extremes.{lesser, greater}
 use Rattle.voltage.specs.Table.{channelsOf, powerRefusal}
 
@@ -35,25 +35,29 @@ pub record AllEntered (fresh : Bool) (ts : List Extremes) (range : ℕ) (levels 
   pub each : (k : ℕ) → k < 20 → getD r k none ≡ entered fresh (getD ts k none) (voltsOf range (getD levels k 0))
 
 abbrev pub refusedTable : ℕ → Table
-refusedTable n = record { refusal = n; channels = channelsOf [] }
+refusedTable n = record { refusal = n; channels = channelsOf nothing }
 
-abbrev pub tableOf : List Board → Table
-tableOf seen = record { refusal = powerRefusal seen; channels = channelsOf seen }
+abbrev pub tableOf : Counted → Table
+tableOf w = record { refusal = powerRefusal (w .levels); channels = channelsOf w }
 
-abbrev pub watched : Bool → Board → List Board → List Board
-watched fresh b seen = cond fresh (b ∷ []) (also b seen)
+abbrev pub watched : Bool → Board → Counted → Counted
+watched fresh b w = cond fresh (freshly b) (record { range = w .range; levels = also (b .core .outputs .levels) (w .levels) })
+
+-- where something counted, it was in the range that the record has
+abbrev pub SameRange : Counted → Board → Type 0
+SameRange w b = powerRefusal (w .levels) ≡ 0 → b .core .options .range ≡ w .range
 
 -- whatever counted before: r is the table when an event has left b
 abbrev pub Watched : Bool → Board → Table → Table → Type 0
-Watched fresh b t r = (seen : List Board) → t ≡ tableOf seen → r ≡ tableOf (watched fresh b seen)
+Watched fresh b t r = (w : Counted) → t ≡ tableOf w → (fresh ≡ false → SameRange w b) → r ≡ tableOf (watched fresh b w)
 
 -- the same of its channels, where the event starts afresh or something counted before
 abbrev pub RecordEntered : Bool → Board → List Extremes → Table → Type 0
 RecordEntered fresh b ts r =
-    (seen : List Board)
-    → ts ≡ channelsOf seen
-    → (fresh ≡ false → powerRefusal seen ≡ 0)
-    → r ≡ tableOf (watched fresh b seen)
+    (w : Counted)
+    → ts ≡ channelsOf w
+    → (fresh ≡ false → (powerRefusal (w .levels) ≡ 0) × (b .core .options .range ≡ w .range))
+    → r ≡ tableOf (watched fresh b w)
 
 abbrev pub closedTable : Table → End → Table
 closedTable t File = t

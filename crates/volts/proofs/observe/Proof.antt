@@ -1,12 +1,10 @@
-use mathlib.Core.Path.{_≡_, ap, _∙_}
-use mathlib.Core.Bool.{Bool, _&&_}
-use mathlib.Core.List.{List}
+use mathlib.Core.Path.{sym, ap, subst, _∙_}
+use mathlib.Core.Bool.{_&&_}
 use borrow.Author.Needs.{needs}
 use lib.Dec.{eqb}
 use Rattle.rules.specs.declared.Answer.{Answer}
-use Rattle.rules.specs.declared.Board.{Board}
 use Rattle.voltage.specs.Counting.{isPowerUp, count}
-use Rattle.volts.specs.Watching.{tableOf, watched}
+use Rattle.volts.specs.Watching.{tableOf, watched, SameRange}
 use Rattle.volts.proofs.observe.Statement.{statement}
 use Rattle.volts.proofs.observe.Tie as tie
 
@@ -31,7 +29,9 @@ returns c =
     record {
       board = s .board;
       memory = s .memory;
-      table = λ seen h. c .watch .ensures seen h ∙ (λ i. tableOf (watched (fresh i) (s .board i) seen));
+      table = λ w h same.
+          c .watch .ensures w h (λ f. subst (SameRange w) (sym (s .board)) (same (sym fresh ∙ f)))
+          ∙ (λ i. tableOf (watched (fresh i) (s .board i) w));
     }
 
 pub observe-spec : {M : Type 1} → statement M
