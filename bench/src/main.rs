@@ -1,7 +1,8 @@
-//! Lists or writes four sessions many times in one process, through the proved code and through the second model, written in Rust,
+//! Lists or writes four sessions, or makes their tables of volts, many times in one process, through the proved code and through the second model, written in Rust,
 //! and prints how many events a second each takes and the ratio of their times.
 
 mod sessions;
+mod volts;
 mod writing;
 
 use std::hint::black_box;
@@ -9,14 +10,16 @@ use std::process::exit;
 use std::time::{Duration, Instant};
 
 const HELP: &str = "\
-bench/run - the proved listing, or writing, of whole sessions against the same in Rust
+bench/run - the proved listing, writing or volts of whole sessions against the same in Rust
 
-usage: bench/run [--rounds N] [--only NAME] [--writing] [--ours] [--help]
+usage: bench/run [--rounds N] [--only NAME] [--writing | --volts] [--ours] [--help]
 
   --rounds N     how often each session is replayed on each side, a number from 1
                  (default 2000); in turns, and the best is taken
   --only NAME    only this session: streaming, circular, simultaneous or random
   --writing      the sessions are written from their events, and not listed
+  --volts        the table of lowest, highest and last volts is made of them, and not a
+                 listing; below each row stands its time over that of the listing
   --ours         only the proved side and no table, for a profiler
   --help         this text
 
@@ -31,8 +34,16 @@ const MEMORY: usize = 16_384;
 struct Options {
     rounds: u64,
     only: Option<String>,
-    writing: bool,
+    what: What,
     ours: bool,
+}
+
+/// What is measured.
+#[derive(Clone, Copy, PartialEq)]
+enum What {
+    Listing,
+    Writing,
+    Volts,
 }
 
 fn main() {
@@ -53,23 +64,20 @@ fn main() {
     }
     if options.ours {
         for session in &chosen {
-            if options.writing {
-                writing::ours(session, options.rounds);
-                continue;
-            }
-            let mut ours = Ours::new(&session.file);
-            for _ in 0..options.rounds {
-                ours.list(&session.file);
+            match options.what {
+                What::Listing => listing(&session.file, options.rounds),
+                What::Writing => writing::ours(session, options.rounds),
+                What::Volts => volts::ours(session, options.rounds),
             }
         }
         return;
     }
     println!("session         events   Rust, events/s   proved, events/s   ratio");
     for session in &chosen {
-        if options.writing {
-            writing::measure(session, options.rounds);
-        } else {
-            measure(session.name, &session.file, options.rounds);
+        match options.what {
+            What::Listing => measure(session.name, &session.file, options.rounds),
+            What::Writing => writing::measure(session, options.rounds),
+            What::Volts => volts::measure(session, options.rounds),
         }
     }
 }
@@ -78,7 +86,7 @@ fn options() -> Result<Options, String> {
     let mut options = Options {
         rounds: 2_000,
         only: None,
-        writing: false,
+        what: What::Listing,
         ours: false,
     };
     let mut given = std::env::args().skip(1);
@@ -93,7 +101,11 @@ fn options() -> Result<Options, String> {
                 };
             }
             "--only" => options.only = Some(word()?),
-            "--writing" => options.writing = true,
+            "--writing" | "--volts" if options.what != What::Listing => {
+                return Err("`--writing` and `--volts`: only one of them, and once".to_string());
+            }
+            "--writing" => options.what = What::Writing,
+            "--volts" => options.what = What::Volts,
             "--ours" => options.ours = true,
             "--help" | "-h" => {
                 print!("{HELP}");
@@ -121,6 +133,14 @@ impl Ours {
 
     fn list(&mut self, file: &[u8]) -> usize {
         nergutsai::list(black_box(file), &mut self.memory, &mut self.output)
+    }
+}
+
+/// The proved side alone.
+fn listing(file: &[u8], rounds: u64) {
+    let mut ours = Ours::new(file);
+    for _ in 0..rounds {
+        ours.list(file);
     }
 }
 

@@ -5,7 +5,7 @@ use crate::record::Record;
 
 /// "A generator tick is accepted when clocking is enabled and (EXTERNAL = 0 or
 /// ALT = 1)." Answers the values moved.
-#[inline]
+#[inline(always)]
 pub(crate) fn tick(record: &mut Record, memory: &mut [u32]) -> u32 {
     // "While calibrating, no clock or trigger is accepted."
     if record.calibrating {
@@ -19,7 +19,7 @@ pub(crate) fn tick(record: &mut Record, memory: &mut [u32]) -> u32 {
 
 /// "An outside or software clock is accepted when enabled, EXTERNAL = 1,
 /// ALT = 0 and D6 = 1." Answers the values moved.
-#[inline]
+#[inline(always)]
 pub(crate) fn outside(record: &mut Record, memory: &mut [u32]) -> u32 {
     // "While calibrating, no clock or trigger is accepted." (D6 says so too.)
     if record.calibrating {

@@ -51,7 +51,7 @@ impl Answer {
 }
 
 /// One event.
-#[inline]
+#[inline(always)]
 pub fn step(record: &mut Record, memory: &mut [u32], event: &Event) -> Answer {
     // "On refusal the last three are 0, the given record comes back and memory
     // is unchanged."

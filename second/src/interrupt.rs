@@ -5,7 +5,7 @@ use crate::record::Record;
 /// "Interrupt: conditions 1 calibrated, 2 empty, 3 low quarter, 4 high quarter,
 /// 5 burst ready, 6 load ready, 7 not load ready." Selection 0 is the manual's
 /// "Idle": it has no condition.
-#[inline]
+#[inline(always)]
 fn condition(record: &Record) -> bool {
     match record.selection {
         1 => record.calibrated,
@@ -26,7 +26,7 @@ pub(crate) struct Before {
 }
 
 /// To be asked before the event, of a sound record.
-#[inline]
+#[inline(always)]
 pub(crate) fn before(record: &Record) -> Before {
     Before {
         selection: record.selection,
@@ -36,7 +36,7 @@ pub(crate) fn before(record: &Record) -> Before {
 
 /// "If an event leaves the selection unchanged, false to true sets the request
 /// after all else; true to false clears it."
-#[inline]
+#[inline(always)]
 pub(crate) fn after(before: &Before, record: &mut Record) {
     if before.selection != record.selection {
         return;

@@ -5,7 +5,8 @@
 //! beside them: each rule stands under a comment that quotes its sentence.
 //! DECISIONS.md lists the places where a sentence had to be interpreted.
 //! `#[inline]` marks what every event of a run or of a written session goes
-//! through.
+//! through, and `#[inline(always)]` what would else be a call, since `list` and
+//! `volts` both run it.
 
 #![forbid(unsafe_code)]
 

@@ -2,6 +2,7 @@
 
 use crate::event::Answer;
 use crate::line::{append, hex};
+use crate::record::Record;
 use crate::run::run;
 
 /// "`rehearse` reads a file (at most 65,536 bytes, memory 16,384 values) from
@@ -25,9 +26,11 @@ pub fn list(file: &[u8], memory: &mut [u32], out: &mut Vec<u8>) {
         return;
     }
     out.extend_from_slice(b"REHEARSAL 1\n");
+    // "A run starts unpowered"
+    let mut record = Record::unpowered();
     // One line per record.
     let mut number = 0;
-    let (record, end) = run(file, memory, |_, answer, record| {
+    let end = run(file, memory, &mut record, |_, answer, record| {
         number += 1;
         event_line(number, answer, record.count, out);
     });

@@ -54,7 +54,7 @@ pub(crate) const FIELD: u32 = 30;
 pub(crate) const ROWS: u32 = 32;
 
 /// The refusal of an event, or DONE. `length` is the memory's length.
-#[inline]
+#[inline(always)]
 pub(crate) fn refusal(record: &Record, length: usize, event: &Event) -> u32 {
     match *event {
         // "checked in that order, then 2"; "(any old record is accepted)"

@@ -20,7 +20,7 @@ fn at(flag: bool, n: u32) -> u32 {
 }
 
 /// The value read. The offset is one of the eight.
-#[inline]
+#[inline(always)]
 pub(crate) fn read(record: &Record, offset: u32) -> u32 {
     match offset {
         0x00 => read_bcr(record),
@@ -83,7 +83,7 @@ fn read_bor(record: &Record) -> u32 {
 
 /// A write; answers the values moved and the load fate. The offset is one of
 /// the eight but 10h and 14h, and no calibration runs.
-#[inline]
+#[inline(always)]
 pub(crate) fn write(
     record: &mut Record,
     memory: &mut [u32],

@@ -5,20 +5,20 @@ use crate::event::{step, Answer, Event};
 use crate::record::Record;
 use crate::session::each_event;
 
-/// Runs a file. After each event `after` gets the event, its answer and the
-/// record; at the end that record comes back, with the file refusal if there is
-/// one: "A file refusal stops it, and record and memory stay as the earlier
-/// records left them."
-#[inline]
+/// Runs a file on a record, which is unpowered at the start. After each event
+/// `after` gets the event, its answer and the record; at the end there is the
+/// file refusal, if any: "A file refusal stops it, and record and memory stay as
+/// the earlier records left them." It is no part of its callers: so what they
+/// hold beside it does not slow it down.
+#[inline(never)]
 pub(crate) fn run(
     file: &[u8],
     memory: &mut [u32],
+    record: &mut Record,
     mut after: impl FnMut(&Event, &Answer, &Record),
-) -> (Record, Result<(), (u32, usize)>) {
-    let mut record = Record::unpowered();
-    let end = each_event(file, |event| {
-        let answer = step(&mut record, memory, event);
-        after(event, &answer, &record);
-    });
-    (record, end)
+) -> Result<(), (u32, usize)> {
+    each_event(file, |event| {
+        let answer = step(record, memory, event);
+        after(event, &answer, record);
+    })
 }

@@ -3,6 +3,7 @@
 //! last." While the session runs there are only levels, whole numbers.
 
 use crate::event::Event;
+use crate::record::Record;
 use crate::refuse;
 use crate::run::run;
 
@@ -34,7 +35,8 @@ pub fn volts(file: &[u8], memory: &mut [u32]) -> (u32, [Volts; 20]) {
 /// The volts of the twenty channels, or the refusal.
 fn table(file: &[u8], memory: &mut [u32]) -> Result<[Volts; 20], u32> {
     let mut extremes: Option<Extremes> = None;
-    let (record, end) = run(file, memory, |event, answer, record| {
+    let mut record = Record::unpowered();
+    let end = run(file, memory, &mut record, |event, answer, record| {
         let accepted = answer.refusal == refuse::DONE;
         if accepted && matches!(event, Event::PowerUp { .. }) {
             // "Levels right after an accepted power-up"; "another accepted
