@@ -155,6 +155,8 @@ enum {
  *      channel to 0 volts; a channel that is not fitted stays there.
  *   another of the numbers above  it was refused: the sixty numbers are positive zeros. A bad file is told first.
  * The memory is as the run left it, also where the session was refused. A file may have any length.
+ * A protection that is wired by these numbers must bear more while the board calibrates: its manual has the outputs fluctuate
+ * between zero and positive full scale then, and that is no level of the model.
  * The file is only read. The three pointers must be aligned and not NULL, `file` and `memory` for as many bytes or numbers as their
  * lengths say, and no two may overlap. */
 uint32_t nergutsai_volts(

@@ -321,6 +321,9 @@ pub fn volts_call(file: &[u8], memory: &mut [u32], volts: &mut [f32; 60]) -> u32
 /// sample memory. The levels right after an accepted power-up count, and those after each later event; another accepted
 /// power-up starts afresh. The memory is as the run left it, also where the session is refused. A file may have any
 /// length.
+///
+/// A protection that is wired by these numbers must bear more while the board calibrates: its manual has the outputs
+/// fluctuate between zero and positive full scale then, and that is no level of the model.
 pub fn volts(file: &[u8], memory: &mut [u32]) -> Result<[Extremes; 20], Refusal> {
     let mut numbers = [0.0; 60];
     match volts_call(file, memory, &mut numbers) {
