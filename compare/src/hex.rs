@@ -47,6 +47,18 @@ pub fn text(bytes: &[u8]) -> String {
     text
 }
 
+/// Prints a file, or so many lines of it.
+pub fn print(bytes: &[u8], most: usize) {
+    let text = text(bytes);
+    for line in text.lines().take(most) {
+        println!("{line}");
+    }
+    let more = text.lines().count().saturating_sub(most);
+    if more > 0 {
+        println!("# and {more} more lines: --only prints them all");
+    }
+}
+
 /// Bytes of a record that has no event, or is not read.
 fn whole(text: &mut String, record: &[u8], comment: &str) {
     for (i, bytes) in record.chunks(BYTES).enumerate() {

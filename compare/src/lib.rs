@@ -1,18 +1,22 @@
-//! What the four programs share: their words, records, events and answers as
-//! numbers, the second model behind them, random sessions, and session files.
-//! Nothing here needs the archives.
+//! What the five programs share: their words, records, events and answers as
+//! numbers, the second model behind them, random sessions, session files, and
+//! the way through these. Nothing here needs the archives.
 
+pub mod counts;
 pub mod crc;
 pub mod damage;
 pub mod fields;
 pub mod file;
 pub mod files;
 pub mod generate;
+pub mod guarded;
 pub mod hex;
+pub mod memory;
 pub mod model;
 pub mod options;
 pub mod panics;
 pub mod process;
 pub mod rng;
 pub mod shorten;
+pub mod trials;
 pub mod words;

@@ -38,7 +38,7 @@ static const char *words(uint32_t refusal)
     case NERGUTSAI_BUSY: return "the board is calibrating: end the calibration first";
     case NERGUTSAI_NOTHING_TO_END: return "no calibration runs, or the clock is not settling: leave the event out";
     case NERGUTSAI_NOT_WHOLE_EVENTS: return "the rows are not whole events: hand in all six numbers of every event";
-    case NERGUTSAI_UNKNOWN_KIND: return "an event is of no known kind: kinds are 1 to 9";
+    case NERGUTSAI_UNKNOWN_KIND: return "an event or a record is of no known kind: kinds are 1 to 9";
     case NERGUTSAI_FIELD_TOO_LARGE:
         return "a field is too large for its bytes, or not 0 where the kind has none: correct the first such event";
     case NERGUTSAI_PLACE_PAST_END: return "the place is past the output's end: name one inside the output";

@@ -8,11 +8,8 @@ use lib.ListN.{length, getD, set, drop, drop-of-length-le}
 use lib.Seq.{paste, paste-zero, paste-suc, take-length}
 use lib.Ieee.{Float, nan}
 use Rattle.voltage.specs.declared.Extremes.{Extremes}
+use Rattle.volts.specs.Watching.{none}
 use Rattle.tide.specs.Promises.{numbersOf}
-
--- what the checker takes for an element past the end
-abbrev none : Extremes
-none = record { lowest = nan; highest = nan; last = nan }
 
 numbers-length : (xs : List Extremes) → length (numbersOf xs) ≡ 3 * length xs
 unfolding numbersOf

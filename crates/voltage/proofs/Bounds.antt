@@ -5,10 +5,10 @@ use native.Mathlib.Omega.{arith}
 use mathlib.Core.Path.{_≡_, refl, sym, ap, _∙_, subst}
 use mathlib.Core.Logic.{_⊎_, inl, inr}
 use mathlib.Core.Bool.{Bool, true, false, cond}
-use mathlib.Core.List.{List, [], _∷_, _++_}
+use mathlib.Core.List.{List, [], _∷_}
 use borrow.Author.Tests.{ltb-true, ltb-false}
 use lib.Dec.{ltb}
-use lib.Ieee.{Float, lt, le}
+use lib.Ieee.{Float, le}
 use Rattle.voltage.specs.Volts.{zeroVolts}
 use Rattle.voltage.specs.Extremes.{lesser, greater, picked, lastOf}
 use Rattle.voltage.specs.Table.{extremesOf}

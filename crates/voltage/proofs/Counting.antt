@@ -4,8 +4,7 @@ use mathlib.Core.Path.{_≡_, refl, sym, ap, _∙_, subst}
 use mathlib.Core.Logic.{_⊎_, inl, inr}
 use mathlib.Core.Bool.{Bool, true, false, true≢false, false≢true}
 use mathlib.Core.List.{List, [], _∷_, _++_, reverseAux}
-use borrow.Author.Tests.{eqb-true, eqb-false, eq-eqb, ne-eqb}
-use lib.Dec.{eqb}
+use borrow.Author.Tests.{eqb-true, eq-eqb, ne-eqb}
 use Rattle.laws.specs.Types.{Settings, Event, powerUp, write, read, signal, tick}
 use Rattle.rules.specs.Record.{State}
 use Rattle.rules.specs.Step.{Outcome, step}
@@ -17,18 +16,18 @@ use Rattle.voltage.proofs.Playing.{up-fresh}
 
 -- ---- An event that starts nothing afresh
 
-pub goes-on : (s : State) (e : Event) → ((x : Settings) → e ≡ powerUp x → ¬ Accepted s x) → startsAfresh e (step s e) ≡ false
+goes-on : (s : State) (e : Event) → ((x : Settings) → e ≡ powerUp x → ¬ Accepted s x) → startsAfresh e (step s e) ≡ false
 unfolding isPowerUp
 goes-on s (powerUp x) n = ne-eqb _ 0 (n x refl)
 goes-on s (write a v) n = refl
 goes-on s (read a) n = refl
 goes-on s (signal x) n = refl
 
-pub none-first : (s : State) (e : Event) (es : List Event) → NoneAccepted s (e ∷ es) → startsAfresh e (step s e) ≡ false
+none-first : (s : State) (e : Event) (es : List Event) → NoneAccepted s (e ∷ es) → startsAfresh e (step s e) ≡ false
 unfolding after
 none-first s e es n = goes-on s e (λ x h. n [] es x (ap (λ (d : Event). d ∷ es) h))
 
-pub none-later : (s : State) (e : Event) (es : List Event) → NoneAccepted s (e ∷ es) → NoneAccepted ((step s e) .state) es
+none-later : (s : State) (e : Event) (es : List Event) → NoneAccepted s (e ∷ es) → NoneAccepted ((step s e) .state) es
 unfolding after
 none-later s e es n before later x h = n (e ∷ before) later x (ap (λ (ds : List Event). e ∷ ds) h)
 
@@ -48,7 +47,7 @@ count-up : (s : State) (x : Settings) (w : Counted) → Accepted s x
 unfolding isPowerUp
 count-up s x w h =
     count-fresh (powerUp x) (step s (powerUp x)) w (eq-eqb _ 0 h)
-    ∙ (λ i. record { range = (up-fresh s x h) .range i; levels = levelsOf (step s (powerUp x)) ∷ [] })
+    ∙ (λ i. record { range = (up-fresh s x h) .0 i; levels = levelsOf (step s (powerUp x)) ∷ [] })
 
 -- ---- The laws
 

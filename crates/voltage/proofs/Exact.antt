@@ -1,14 +1,15 @@
 -- The volts of a level are exact, in the order of the levels, and zero is positive.
 use Prim.Native.Nat.{ℕ, _+_, _-_, _*_, _≤_, _<_}
 use mathlib.Core.Path.{_≡_, refl, sym, ap, _∙_, subst}
-use mathlib.Core.Bool.{Bool, true, false, cond, true≢false}
-use native.Mathlib.Nat.{mul-le-mul, mul-pos}
+use mathlib.Core.Bool.{Bool, true, false, true≢false}
+use native.Mathlib.Nat.{zero-mul, mul-le-mul, mul-pos}
+use native.Mathlib.Decide.{ℕ-discrete}
 use native.Mathlib.Omega.{arith}
 use borrow.Author.Tests.{lt-ltb, le-ltb, ltb-true, ltb-false}
 use lib.Dec.{ltb, eqb}
-use lib.Ieee.{Float, neg, eq}
+use lib.Ieee.{round, neg, eq}
 use lib.Ieee.Exact.{HasValue}
-use Rattle.rules.proofs.Choice.{cases, either}
+use Rattle.rules.proofs.Choice.{either}
 use Rattle.voltage.specs.Volts.{factor, share, voltsOf, zeroVolts}
 use Rattle.voltage.specs.Laws.{Exact, Volts-exact}
 use Rattle.voltage.proofs.Numbers.{Height, over, under, not-zero, share-value, minus-value}
@@ -29,11 +30,11 @@ size-small n range h = mul-le-mul h (factor-small range)
 
 -- ---- Above and below midrange
 
-pub volts-above : (range level : ℕ) → 32768 ≤ level → voltsOf range level ≡ share ((level - 32768) * factor range)
+volts-above : (range level : ℕ) → 32768 ≤ level → voltsOf range level ≡ share ((level - 32768) * factor range)
 unfolding voltsOf
 volts-above range level h = rw (le-ltb level 32768 h)
 
-pub volts-below : (range level : ℕ) → level < 32768 → voltsOf range level ≡ neg (share ((32768 - level) * factor range))
+volts-below : (range level : ℕ) → level < 32768 → voltsOf range level ≡ neg (share ((32768 - level) * factor range))
 unfolding voltsOf
 volts-below range level h = rw (lt-ltb level 32768 h)
 
@@ -72,15 +73,15 @@ volts-height range level h = go (ltb level 32768) refl
         (655360 + n, over n (above-value range level h (ltb-false _ _ e)) refl)
 
 zero-share : share 0 ≡ zeroVolts
-unfolding share lib.Ieee.round
+unfolding share round
 zero-share = refl
 
 -- 8000h is zero volts in every range
 pub midrange-zero : (range : ℕ) → voltsOf range 32768 ≡ zeroVolts
-midrange-zero range = volts-above range 32768 (omega arith) ∙ ap share (native.Mathlib.Nat.zero-mul (factor range)) ∙ zero-share
+midrange-zero range = volts-above range 32768 (omega arith) ∙ ap share (zero-mul (factor range)) ∙ zero-share
 
 pub volts-zero : (range level : ℕ) → level < 65536 → eq (voltsOf range level) zeroVolts ≡ true → voltsOf range level ≡ zeroVolts
-volts-zero range level h z = go (native.Mathlib.Decide.ℕ-discrete level 32768) (ltb level 32768) refl
+volts-zero range level h z = go (ℕ-discrete level 32768) (ltb level 32768) refl
   where
     less : level < 32768 → 0 < 32768 - level
     less l = omega (arith, l)

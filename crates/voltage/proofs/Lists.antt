@@ -1,12 +1,12 @@
 -- A fact of each thing of a list, and a list that is parted at one of its things.
-use mathlib.Core.Path.{_≡_, refl, sym, ap, subst}
+use mathlib.Core.Path.{_≡_, subst}
 use mathlib.Core.List.{List, [], _∷_, _++_, map}
 
 abbrev pub Each {ℓ} : {A : Type ℓ} → (A → Type 0) → List A → Type 0
 Each P [] = Unit {0}
 Each P (x ∷ xs) = P x × Each P xs
 
-pub each-at {ℓ} : {A : Type ℓ} (P : A → Type 0) (us ws : List A) (x : A) → Each P (us ++ (x ∷ ws)) → P x
+each-at {ℓ} : {A : Type ℓ} (P : A → Type 0) (us ws : List A) (x : A) → Each P (us ++ (x ∷ ws)) → P x
 each-at P [] ws x h = h .0
 each-at P (u ∷ us) ws x h = each-at P us ws x (h .1)
 

@@ -1,7 +1,7 @@
 -- Floats that are whole numbers of 65,536ths, and how the kit compares them.
 --   Height x h   x times 65,536, and 655,360 more, is the natural number h: so the order of such floats is that of their heights
---   lt-heights, le-heights, eq-zero   `<`, `<=` and `== 0.0` of them
---   share-height, minus-height        the heights of n / 65,536 and of its opposite
+--   lt-heights, le-heights, not-zero   `<`, `<=` and `== 0.0` of them
+--   share-value, minus-value           what n / 65,536 and its opposite are
 use Prim.Native.Nat.{ℕ, _+_, _*_, _^_, _≤_, _<_}
 use mathlib.Core.Path.{_≡_, refl, sym, ap, ap₂, _∙_, subst}
 use mathlib.Core.Bool.{Bool, true, false, not, _&&_, _||_, Bool·beq}
@@ -9,9 +9,9 @@ use native.Mathlib.Nat.{mul-comm, mul-assoc, mul-right-comm, mul-pos, add-mul, z
 use native.Mathlib.Omega.{arith}
 use borrow.Author.Tests.{lt-ltb, le-ltb, ltb-true, ltb-false, eqb-true, eq-eqb, ne-eqb}
 use lib.Dec.{ltb, eqb, lit<, lit≤}
-use lib.IntN.{ℤ, pos}
+use lib.IntN.{ℤ}
 use lib.Pow.{shl-lt}
-use lib.Ieee.{Float, nan, inf, fin, binary32, round, neg, lt, eq, le, below, up, down}
+use lib.Ieee.{Float, nan, inf, fin, binary32, neg, lt, eq, le, below, up, down}
 use lib.Ieee.Fits.{down-pos}
 use lib.Ieee.Exact.{HasValue, round-exact}
 use Rattle.rules.proofs.Choice.{or-left, or-right}

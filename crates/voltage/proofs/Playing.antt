@@ -4,20 +4,20 @@ use mathlib.Core.Path.{_≡_, refl, sym, ap, _∙_, subst}
 use mathlib.Core.Bool.{Bool, true, false, true≢false}
 use mathlib.Core.List.{List, [], _∷_}
 use native.Mathlib.Nat.{mod-lt}
-use native.Mathlib.Omega.{arith}
 use lib.Dec.{eqb, lit<}
 use lib.ListN.{getD, set, replicate, take}
-use Rattle.laws.specs.Types.{Settings, Core, Event, powerUp, write, read, signal, Signal, tick, outside, trigger, passed, failed, settled}
+use Rattle.laws.specs.Types.{Settings, Options, Core, Event, powerUp, write, read, signal, Signal, tick, outside, trigger, passed, failed, settled}
 use Rattle.rules.specs.Bits.{bit}
 use Rattle.rules.specs.Record.{State, stored, unpowered}
 use Rattle.rules.specs.Clocks.{Play, closed, moving, coded, laid, targets, moves, clock, tickAccepted, clockAccepted, onTick, onOutside, onTrigger}
 use Rattle.rules.specs.Writes.{initial, writeControl, writeMask, writeRate, writeAdjust, bufferOf, tried, writeBuffer, writeData, onWrite}
-use Rattle.rules.specs.Play.{optionsOf, calibrationEnds, settles, onSignal, play}
+use Rattle.rules.specs.Play.{calibrationEnds, settles, onSignal, play}
 use Rattle.rules.specs.Flags.{isFull}
 use Rattle.rules.specs.Step.{Outcome, refused, boardBefore, done, step}
 use Rattle.rules.specs.Laws.Refusals.{Ordinary}
 use Rattle.rules.proofs.Choice.{either}
-use Rattle.rules.proofs.Steps.{step-cases}
+use Rattle.rules.proofs.Steps.{step-cases, refusal-answered}
+use Rattle.rules.proofs.Initial.{power-up-fresh}
 use Rattle.laws.proofs.Offsets.{write-cases}
 use Rattle.voltage.specs.Counting.{isPowerUp, startsAfresh}
 
@@ -59,34 +59,34 @@ unfolding unpowered
 start-holds = (refl, replicate-sixteen 20 0 (lit< tt))
 
 module _ (r : ℕ) where
-  abbrev Leaves : Play → Type 0
-  Leaves p = Holds r (p .core)
+  abbrev Keeps : Play → Type 0
+  Keeps p = Holds r (p .core)
 
-  moves-hold : (c : Core) (buf : List ℕ) (k : ℕ) → Holds r c → Leaves (moves c buf k)
+  moves-hold : (c : Core) (buf : List ℕ) (k : ℕ) → Holds r c → Keeps (moves c buf k)
   unfolding moves
   moves-hold c buf zero h = h
   moves-hold c buf (suc k) h = (h .0, laid-sixteen (c .control .binary) (c .outputs .levels) (targets c) (take (suc k) buf) (h .1))
 
-  outside-holds : (c : Core) (buf : List ℕ) → Holds r c → Leaves (onOutside c buf)
+  outside-holds : (c : Core) (buf : List ℕ) → Holds r c → Keeps (onOutside c buf)
   unfolding onOutside clock
-  outside-holds c buf h = either Leaves (clockAccepted c) (moves-hold c buf (moving c buf) h) h
+  outside-holds c buf h = either Keeps (clockAccepted c) (moves-hold c buf (moving c buf) h) h
 
-  tick-holds : (c : Core) (buf : List ℕ) → Holds r c → Leaves (onTick c buf)
+  tick-holds : (c : Core) (buf : List ℕ) → Holds r c → Keeps (onTick c buf)
   unfolding onTick clock
-  tick-holds c buf h = either Leaves (tickAccepted c) (moves-hold c buf (moving c buf) h) h
+  tick-holds c buf h = either Keeps (tickAccepted c) (moves-hold c buf (moving c buf) h) h
 
-  buffer-holds : (c : Core) (buf : List ℕ) (v : ℕ) → Holds r c → Leaves (writeBuffer c buf v)
+  buffer-holds : (c : Core) (buf : List ℕ) (v : ℕ) → Holds r c → Keeps (writeBuffer c buf v)
   unfolding writeBuffer tried bufferOf
-  buffer-holds c buf v h = either Leaves (bit 11 v) h (either Leaves (bit 7 v) (outside-holds (bufferOf v c) buf h) h)
+  buffer-holds c buf v h = either Keeps (bit 11 v) h (either Keeps (bit 7 v) (outside-holds (bufferOf v c) buf h) h)
 
-  data-holds : (c : Core) (full : Bool) (v : ℕ) → Holds r c → Leaves (writeData c full v)
+  data-holds : (c : Core) (full : Bool) (v : ℕ) → Holds r c → Keeps (writeData c full v)
   unfolding writeData
-  data-holds c full v h = either Leaves (closed c) h (either Leaves full h h)
+  data-holds c full v h = either Keeps (closed c) h (either Keeps full h h)
 
-  write-holds : (c : Core) (buf : List ℕ) (full : Bool) (o v : ℕ) → Holds r c → Leaves (onWrite c buf full o v)
+  write-holds : (c : Core) (buf : List ℕ) (full : Bool) (o v : ℕ) → Holds r c → Keeps (onWrite c buf full o v)
   unfolding initial writeControl writeMask writeRate writeAdjust
   write-holds c buf full o v h =
-      write-cases Leaves c buf full o v
+      write-cases Keeps c buf full o v
       (λ _. (h .0, replicate-sixteen 20 0x8000 (lit< tt)))
       (λ _. h)
       (λ _. h)
@@ -95,7 +95,7 @@ module _ (r : ℕ) where
       (λ _. data-holds c full v h)
       h
 
-  signal-holds : (c : Core) (buf : List ℕ) (x : Signal) → Holds r c → Leaves (onSignal c buf x)
+  signal-holds : (c : Core) (buf : List ℕ) (x : Signal) → Holds r c → Keeps (onSignal c buf x)
   unfolding onSignal onTrigger calibrationEnds settles
   signal-holds c buf tick h = tick-holds c buf h
   signal-holds c buf outside h = outside-holds c buf h
@@ -133,18 +133,13 @@ event-holds r s (read a) f h = step-cases (HoldsAfter r) s (read a) (λ _. done-
 event-holds r s (signal x) f h = step-cases (HoldsAfter r) s (signal x) (λ _. done-holds r s (signal x) tt h) (λ _. h)
 
 -- an accepted power-up gives its own range, and midrange on all twenty channels
-pub record Fresh (r : ℕ) (c : Core) : Type 0 where
-  pub range : c .options .range ≡ r
-  pub levels : c .outputs .levels ≡ replicate 20 0x8000
-
-pub up-fresh : (s : State) (x : Settings) → (step s (powerUp x)) .answer .refusal ≡ 0 → Fresh (x .range) ((step s (powerUp x)) .state .board .core)
-unfolding refused done boardBefore play initial
-up-fresh s x =
-    step-cases (λ o. o .answer .refusal ≡ 0 → Fresh (x .range) (o .state .board .core)) s (powerUp x)
-    (λ _ _. record { range = refl; levels = refl })
-    (λ n z. absurd (n z))
+pub up-fresh : (s : State) (x : Settings) → (step s (powerUp x)) .answer .refusal ≡ 0
+    → (let c : Core = (step s (powerUp x)) .state .board .core in (c .options .range ≡ x .range) × (c .outputs .levels ≡ replicate 20 0x8000))
+up-fresh s x h =
+    let f = power-up-fresh s x (sym (refusal-answered s (powerUp x)) ∙ h) in
+    (ap (λ (o : Options). o .range) (f .options), f .levels)
 
 pub up-holds : (s : State) (x : Settings) → (step s (powerUp x)) .answer .refusal ≡ 0 → HoldsAfter (x .range) (step s (powerUp x))
 up-holds s x h =
     let u = up-fresh s x h in
-    (u .range, subst Sixteen (sym (u .levels)) (replicate-sixteen 20 0x8000 (lit< tt)))
+    (u .0, subst Sixteen (sym (u .1)) (replicate-sixteen 20 0x8000 (lit< tt)))

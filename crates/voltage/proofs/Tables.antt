@@ -1,16 +1,16 @@
 -- The laws of a session's table.
 use Prim.Native.Nat.{ℕ, zero, suc, _+_, _<_}
 use mathlib.Core.Path.{_≡_, refl, sym, ap, _∙_, subst}
-use mathlib.Core.Logic.{_≢_, _⊎_, inl, inr}
-use mathlib.Core.Bool.{Bool, true, false, cond, true≢false, false≢true}
-use mathlib.Core.List.{List, [], _∷_, _++_, map}
+use mathlib.Core.Logic.{_⊎_, inl, inr}
+use mathlib.Core.Bool.{Bool, true, false, cond}
+use mathlib.Core.List.{List, [], _∷_, map}
 use native.Mathlib.Nat.{not-suc-le-zero, add-zero, zero-add, add-suc, suc-add}
 use native.Mathlib.Omega.{arith}
-use borrow.Author.Tests.{eqb-true, eq-eqb, ne-eqb}
+use borrow.Author.Tests.{ne-eqb}
 use lib.Dec.{eqb, eqb·suc-zero}
 use lib.ListN.{getD, replicate}
 use lib.Ieee.{Float, eq}
-use Rattle.laws.specs.Types.{Settings, Event}
+use Rattle.laws.specs.Types.{Event}
 use Rattle.rules.specs.Record.{State, start}
 use Rattle.rules.specs.Step.{step}
 use Rattle.rules.proofs.Choice.{cases, either, cond-false}
@@ -18,7 +18,7 @@ use Rattle.files.specs.declared.Fault.{Fault}
 use Rattle.files.specs.declared.Fault.the-variants.{Version, Cut, Length, Kind}
 use Rattle.files.specs.declared.End.{End}
 use Rattle.files.specs.declared.End.the-variants.{File, Refused}
-use Rattle.files.specs.File.{Session, session, verdict, faultNumber}
+use Rattle.files.specs.File.{session, verdict, faultNumber}
 use Rattle.voltage.specs.declared.Extremes.{Extremes}
 use Rattle.voltage.specs.Volts.{voltsOf, zeroVolts}
 use Rattle.voltage.specs.Counting.{Counted, nothing, also, startsAfresh, count, counted}
@@ -152,7 +152,7 @@ count-sure s e w h k = cases (λ (v : Counted). Sure (v .levels)) (startsAfresh 
         let u = is-up s e f in
         record {
           sixteen = (h, tt);
-          started = subst (λ (d : Event). (step s d) .state .board .core .outputs .levels ≡ replicate 20 0x8000) (sym (u .1)) ((up-fresh s (u .0) (u .2)) .levels);
+          started = subst (λ (d : Event). (step s d) .state .board .core .outputs .levels ≡ replicate 20 0x8000) (sym (u .1)) ((up-fresh s (u .0) (u .2)) .1);
         }
 
 counted-sure : (w : Counted) (s : State) (es : List Event) → (r : ℕ) × Holds r (s .board .core) → Sure (w .levels) → Sure ((counted w s es) .levels)

@@ -22,7 +22,7 @@ use Rattle.rules.specs.Step.{Outcome, step}
 use Rattle.rules.specs.Session.{outcomes, after}
 use Rattle.files.specs.declared.Fault.{Fault}
 use Rattle.files.specs.declared.End.the-variants.{File, Refused}
-use Rattle.files.specs.File.{Session, session, faultNumber}
+use Rattle.files.specs.File.{session, faultNumber}
 use Rattle.voltage.specs.declared.Extremes.{Extremes}
 use Rattle.voltage.specs.Volts.{voltsOf, zeroVolts}
 use Rattle.voltage.specs.Counting.{Counted, nothing, counted}

@@ -8,7 +8,7 @@ use lib.Dec.{eqb}
 use lib.ListN.{getD}
 use lib.Ieee.{Float}
 use Rattle.rules.specs.Record.{start}
-use Rattle.files.specs.File.{Session, session, verdict}
+use Rattle.files.specs.File.{session, verdict}
 use Rattle.voltage.specs.declared.Extremes.{Extremes}
 use Rattle.voltage.specs.Volts.{voltsOf}
 use Rattle.voltage.specs.Counting.{Counted, nothing, counted}

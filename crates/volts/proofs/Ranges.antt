@@ -14,14 +14,14 @@ use Rattle.voltage.proofs.Playing.{Sixteen, start-holds, event-holds}
 use Rattle.voltage.proofs.Tables.{event-sixteen}
 use Rattle.volts.specs.Watching.{SameRange}
 
-abbrev pub Fits : Counted → Board → Type 0
-Fits w b = SameRange w b × Sixteen (b .core .outputs .levels)
+abbrev pub Suits : Counted → Board → Type 0
+Suits w b = SameRange w b × Sixteen (b .core .outputs .levels)
 
-pub start-fits : (m : List ℕ) → Fits nothing ((start m) .board)
-start-fits m = (λ _. start-holds .0, start-holds .1)
+pub start-suits : (m : List ℕ) → Suits nothing ((start m) .board)
+start-suits m = (λ _. start-holds .0, start-holds .1)
 
 -- an event that starts nothing afresh keeps the range
-pub range-kept : (s : State) (e : Event) (w : Counted) → Fits w (s .board) → startsAfresh e (step s e) ≡ false → SameRange w ((step s e) .state .board)
+pub range-kept : (s : State) (e : Event) (w : Counted) → Suits w (s .board) → startsAfresh e (step s e) ≡ false → SameRange w ((step s e) .state .board)
 range-kept s e w h f z = (event-holds _ s e f (refl, h .1)) .0 ∙ h .0 z
 
 also-counted : (x : List ℕ) (xs : List (List ℕ)) → powerRefusal (also x xs) ≡ 0 → powerRefusal xs ≡ 0
@@ -29,9 +29,9 @@ unfolding also
 also-counted x [] h = h
 also-counted x (y ∷ ys) h = refl
 
-pub fits-on : (s : State) (e : Event) (w : Counted) → Fits w (s .board) → Fits (count e (step s e) w) ((step s e) .state .board)
+pub suits-on : (s : State) (e : Event) (w : Counted) → Suits w (s .board) → Suits (count e (step s e) w) ((step s e) .state .board)
 unfolding count
-fits-on s e w h = (
+suits-on s e w h = (
   cases (λ (v : Counted). SameRange v ((step s e) .state .board)) (startsAfresh e (step s e)) (λ _ _. refl)
       (λ f z. range-kept s e w h f (also-counted _ (w .levels) z)),
   (event-sixteen s e (_, (refl, h .1))) .1 .1,

@@ -24,52 +24,52 @@ use Rattle.volts.specs.Watching.{refusedTable, tableOf, closedTable}
 use Rattle.volts.specs.Observing.{Observes}
 use Rattle.volts.specs.Promises.{Tabled}
 use Rattle.volts.proofs.Watching.{closed-told}
-use Rattle.volts.proofs.Ranges.{Fits, start-fits, range-kept, fits-on}
+use Rattle.volts.proofs.Ranges.{Suits, start-suits, range-kept, suits-on}
 
 -- ---- What comes of a session
 
-pub record Stage : Type 0 where
+pub record Tally : Type 0 where
   pub state : State
   pub seen : Counted
 
-pub record Finish : Type 0 where
+pub record Total : Type 0 where
   pub state : State
   pub seen : Counted
   pub end : End
 
-pub record Counts (o : Finish) (a : Stage) (x : Session) : Type 0 where
+pub record Counts (o : Total) (a : Tally) (x : Session) : Type 0 where
   pub state : o .state ≡ after (a .state) (x .events)
   pub seen : o .seen ≡ counted (a .seen) (a .state) (x .events)
   pub end : o .end ≡ x .end
 
-abbrev onward : Stage → Event → Stage
+abbrev onward : Tally → Event → Tally
 onward a e = record { state = (step (a .state) e) .state; seen = count e (step (a .state) e) (a .seen) }
 
 -- an event that is played
-played : (a : Stage) (e : Event) → Passes Counts a e (onward a e)
+tallied : (a : Tally) (e : Event) → Passes Counts a e (onward a e)
 unfolding after counted
-played a e o x g = record { state = g .state; seen = g .seen; end = g .end }
+tallied a e o x g = record { state = g .state; seen = g .seen; end = g .end }
 
 -- and the end of the file
-ended : (a : Stage) (x : End) → Counts (record { state = a .state; seen = a .seen; end = x }) a (record { events = []; end = x })
+totalled : (a : Tally) (x : End) → Counts (record { state = a .state; seen = a .seen; end = x }) a (record { events = []; end = x })
 unfolding after counted
-ended a x = record { state = refl; seen = refl; end = refl }
+totalled a x = record { state = refl; seen = refl; end = refl }
 
 -- ---- The loop
 
-abbrev pub stageOf : Board → List ℕ → Counted → Stage
-stageOf b m w = record { state = stateOf b m; seen = w }
+abbrev pub tallyOf : Board → List ℕ → Counted → Tally
+tallyOf b m w = record { state = stateOf b m; seen = w }
 
-abbrev pub OnWay : (s m : List ℕ) → Stage → Cursor → Type 0
-OnWay s m a c = Way Counts s (stageOf unpowered m nothing) a c
+abbrev pub OnWay : (s m : List ℕ) → Tally → Cursor → Type 0
+OnWay s m a c = Way Counts s (tallyOf unpowered m nothing) a c
 
 -- it stands at the cursor c of the file s with the board b, its memory and the table t; m is the memory at the start
 pub record Running (s m memory : List ℕ) (b : Board) (c : Cursor) (t : Table) : Type 0 where
   pub long : length memory ≡ length m
   pub seen : Counted
   pub table : t ≡ tableOf seen
-  pub fits : Fits seen b
-  pub way : OnWay s m (stageOf b memory seen) c
+  pub suits : Suits seen b
+  pub way : OnWay s m (tallyOf b memory seen) c
 
 pub running-start : (s m : List ℕ) (b : Board) (t : Table) → b ≡ unpowered → t ≡ refusedTable 18 → Running s m m b (record { place = 0 }) t
 running-start s m b t e h =
@@ -77,33 +77,33 @@ running-start s m b t e h =
       long = refl;
       seen = nothing;
       table = h;
-      fits = subst (Fits nothing) (sym e) (start-fits m);
-      way = subst (λ (x : Board). OnWay s m (stageOf x m nothing) (record { place = 0 })) (sym e) (way-start Finish Stage Counts s (stageOf unpowered m nothing));
+      suits = subst (Suits nothing) (sym e) (start-suits m);
+      way = subst (λ (x : Board). OnWay s m (tallyOf x m nothing) (record { place = 0 })) (sym e) (way-start Total Tally Counts s (tallyOf unpowered m nothing));
     }
 
 module _ {s m memory : List ℕ} {b : Board} {c : Cursor} {t : Table} (r : Running s m memory b c t) where
-  here : Stage
-  here = stageOf b memory (r .seen)
+  here : Tally
+  here = tallyOf b memory (r .seen)
 
   pub running-on : (e : Event) (after : Cursor) (o : Observed) (memory′ : List ℕ) → found s c ≡ Found e after → Observes t b memory e o memory′
       → length memory′ ≡ length memory
       → Running s m memory′ (o .board) after (o .table)
   unfolding here
   running-on e after o memory′ f p l =
-      let on = way-on Finish Stage Counts s (stageOf unpowered m nothing) here (onward here e) c after e (r .way) f (played here e) in
+      let on = way-on Total Tally Counts s (tallyOf unpowered m nothing) here (onward here e) c after e (r .way) f (tallied here e) in
       let w = (onward here e) .seen in
       record {
         long = l ∙ r .long;
         seen = w;
-        table = p .table (r .seen) (r .table) (range-kept (stateOf b memory) e (r .seen) (r .fits));
-        fits = subst (Fits w) (sym (p .board)) (fits-on (stateOf b memory) e (r .seen) (r .fits));
-        way = subst (λ (x : Stage). OnWay s m x after) (λ i. stageOf (sym (p .board) i) (sym (p .memory) i) w) on;
+        table = p .table (r .seen) (r .table) (range-kept (stateOf b memory) e (r .seen) (r .suits));
+        suits = subst (Suits w) (sym (p .board)) (suits-on (stateOf b memory) e (r .seen) (r .suits));
+        way = subst (λ (x : Tally). OnWay s m x after) (λ i. tallyOf (sym (p .board) i) (sym (p .memory) i) w) on;
       }
 
   pub running-over : (end : End) (x : Table) → found s c ≡ Over end → x ≡ closedTable t end → Tabled s m x memory
   unfolding here countedIn
   running-over end x f h =
-      let o = way-over Finish Stage Counts s (stageOf unpowered m nothing) here c end (record { state = here .state; seen = here .seen; end = end }) (r .way) f (ended here end) in
+      let o = way-over Total Tally Counts s (tallyOf unpowered m nothing) here c end (record { state = here .state; seen = here .seen; end = end }) (r .way) f (totalled here end) in
       let told = closed-told s m ((session s) .end) refl in
       let q : x ≡ closedTable (tableOf (countedIn s m)) ((session s) .end) = h ∙ (λ i. closedTable (r .table i) end) ∙ (λ i. closedTable (tableOf (o .seen i)) (o .end i)) in
       record {

@@ -1,5 +1,5 @@
 // Lowest, highest and last volts of each channel over a session (02, 2026-03). The loop has to see the event, since an accepted power-up
-// starts the table afresh and initialise, which leaves the same record, does not: so it goes by `run::next` and `board::step`.
+// starts the table afresh and initialise, which can leave the same record, does not: so it goes by `run::next` and `board::step`.
 ghost use Rattle.volts.specs.Observing.{Observes};
 ghost use Rattle.volts.specs.Promises.{Tabled};
 use crate::running::close;

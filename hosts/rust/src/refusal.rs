@@ -136,7 +136,7 @@ impl fmt::Display for Refusal {
             Refusal::NotWholeEvents => {
                 "the rows are not whole events: hand in all six numbers of every event"
             }
-            Refusal::UnknownKind => "an event is of no known kind: kinds are 1 to 9",
+            Refusal::UnknownKind => "an event or a record is of no known kind: kinds are 1 to 9",
             Refusal::FieldTooLarge => {
                 "a field is too large for its bytes, or not 0 where the kind has none: correct the first such event"
             }

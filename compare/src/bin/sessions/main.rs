@@ -5,11 +5,11 @@ mod lent;
 mod tally;
 
 use compare::files::File;
-use compare::hex;
-use compare::options::{self, Options};
-use compare::process::{self, Progress};
+use compare::guarded::Wrongs;
+use compare::options::Options;
+use compare::process::Progress;
 use compare::rng::Rng;
-use compare::shorten;
+use compare::trials::{self, Trial};
 use lent::Lent;
 use tally::Tally;
 
@@ -34,65 +34,35 @@ The first few files that differ are shortened and printed. The last line is
 Exit status: 0 nothing differs, 1 something does, 2 wrong usage.
 ";
 
-/// The other side has this long for one session, in seconds.
-const SESSION_SECONDS: u32 = 20;
-/// So many differences are printed.
-const PRINTED: u64 = 3;
-/// And so many lines of each.
-const LINES: usize = 200;
 /// How the memory, the outputs and the rest are chosen, beside the files.
 const LENDING: u64 = 0x5E55_1015;
 
 fn main() {
-    let options = options::given("compare/sessions", HELP, ("--sessions", 100_000), |_| false);
-    process::watched(
-        |progress| run(&options, progress),
-        |progress, signal| died(&options, progress, signal),
-    );
+    trials::program::<Listed>("compare/sessions", HELP, run);
 }
 
 /// The whole comparison. Answers the exit status.
 fn run(options: &Options, progress: &Progress) -> i32 {
-    println!("seed {}", options.seed);
     let mut lent = Lent::new();
     let mut tally = options.coverage.then(Tally::default);
-    let (mut total, mut differ) = (0, 0);
-    for index in options.indices() {
-        progress.set(0, index);
-        process::time_limit(SESSION_SECONDS);
-        let file = File::new(options.seed, index);
-        if options.only.is_some() {
-            println!("session {index}: {}", file.sort.name());
-            print!("{}", hex::text(&file.bytes));
-        }
+    let counted = trials::each(options, progress, |index, Listed(file)| {
         let listing = second::listing(&file.bytes);
         let mut rng = Rng::new(options.seed ^ LENDING, index);
         let wrongs = compare(&mut lent, &mut rng, &file.bytes, &listing);
-        total += 1;
-        progress.set(2, total);
         if let Some(tally) = &mut tally {
             tally.note(file.sort, &file.bytes, &listing);
         }
-        if wrongs.is_empty() {
-            continue;
-        }
-        differ += 1;
-        progress.set(3, differ);
-        if differ <= PRINTED {
-            process::time_limit(20 * SESSION_SECONDS);
-            report(options, index, &file, &wrongs);
-        }
-    }
+        wrongs
+    });
     if let Some(tally) = &tally {
         tally.print();
     }
-    println!("{total} sessions, {differ} differ");
-    (differ > 0) as i32
+    trials::end(counted)
 }
 
 /// One file, on the memory as the last one left it or with junk in it; before
 /// it, sometimes, an output that is too short.
-fn compare(lent: &mut Lent, rng: &mut Rng, bytes: &[u8], listing: &str) -> Vec<String> {
+fn compare(lent: &mut Lent, rng: &mut Rng, bytes: &[u8], listing: &str) -> Wrongs {
     if rng.chance(1, 32) {
         lent.set_memory(|| rng.word());
     }
@@ -107,55 +77,49 @@ fn compare(lent: &mut Lent, rng: &mut Rng, bytes: &[u8], listing: &str) -> Vec<S
     wrongs
 }
 
-/// Prints a file that differs, as short as can be.
-fn report(options: &Options, index: u64, file: &File, wrongs: &[String]) {
-    println!();
-    println!(
-        "DIFFERENCE in session {index} of seed {} ({}): {}",
-        options.seed,
-        file.sort.name(),
-        wrongs.join("; ")
-    );
-    let differs = |bytes: &[u8]| !alone(bytes).0.is_empty();
-    if !differs(&file.bytes) {
-        println!("It does not differ by itself: the other side seems to remember something.");
-        print_session(&file.bytes);
-        println!();
-        return;
-    }
-    let short = shorten::shorten(&file.bytes, differs);
-    let (wrongs, ours) = alone(&short);
-    println!(
-        "{} bytes shortened to {}: {}",
-        file.bytes.len(),
-        short.len(),
-        wrongs.join("; ")
-    );
-    print_session(&short);
-    first_line(&second::listing(&short), &ours);
-    println!();
-}
+/// A session file that is listed.
+struct Listed(File);
 
-/// A file as hex text, or the start of it.
-fn print_session(bytes: &[u8]) {
-    let text = hex::text(bytes);
-    for line in text.lines().take(LINES) {
-        println!("{line}");
-    }
-    let more = text.lines().count().saturating_sub(LINES);
-    if more > 0 {
-        println!("# and {more} more lines: --only prints them all");
+impl Listed {
+    /// By itself, on a memory with junk: what went wrong, and our listing.
+    fn both(&self) -> (Wrongs, String) {
+        let bytes = self.bytes();
+        let mut lent = Lent::new();
+        let mut rng = Rng::new(LENDING, 0);
+        lent.set_memory(|| rng.word());
+        let mut wrongs = lent.refuse(bytes, nergutsai::room(bytes.len()) - 1);
+        wrongs.extend(lent.list(bytes, 1, &second::listing(bytes)));
+        (wrongs, lent.whole_text())
     }
 }
 
-/// A file by itself, on a memory with junk: what went wrong, and our listing.
-fn alone(bytes: &[u8]) -> (Vec<String>, String) {
-    let mut lent = Lent::new();
-    let mut rng = Rng::new(LENDING, 0);
-    lent.set_memory(|| rng.word());
-    let mut wrongs = lent.refuse(bytes, nergutsai::room(bytes.len()) - 1);
-    wrongs.extend(lent.list(bytes, 1, &second::listing(bytes)));
-    (wrongs, lent.whole_text())
+impl Trial for Listed {
+    fn new(seed: u64, index: u64) -> Listed {
+        Listed(File::new(seed, index))
+    }
+
+    fn name(&self) -> String {
+        self.0.sort.name().to_string()
+    }
+
+    fn bytes(&self) -> &[u8] {
+        &self.0.bytes
+    }
+
+    fn with_file(&self, bytes: &[u8]) -> Listed {
+        Listed(File {
+            sort: self.0.sort,
+            bytes: bytes.to_vec(),
+        })
+    }
+
+    fn alone(&self) -> Wrongs {
+        self.both().0
+    }
+
+    fn print_sides(&self) {
+        first_line(&second::listing(self.bytes()), &self.both().1);
+    }
 }
 
 /// The first line that differs, from both.
@@ -173,22 +137,4 @@ fn first_line(model: &str, ours: &str) {
             break;
         }
     }
-}
-
-/// The child died: tells in which file. Answers the exit status.
-fn died(options: &Options, progress: &Progress, signal: i32) -> i32 {
-    let index = progress.get(0);
-    let file = File::new(options.seed, index);
-    println!();
-    println!(
-        "DIFFERENCE in session {index} of seed {} ({}): ours died of signal {signal}{}",
-        options.seed,
-        file.sort.name(),
-        if signal == 14 { ", the time limit" } else { "" }
-    );
-    print_session(&file.bytes);
-    println!();
-    let (total, differ) = (progress.get(2) + 1, progress.get(3) + 1);
-    println!("{total} sessions, {differ} differ");
-    1
 }

@@ -1,16 +1,15 @@
 //! What is lent to both sides for a call, and what they made of it.
 
 use super::call::Call;
+use compare::guarded::{Guarded, Wrongs};
 use compare::panics::caught;
 use compare::rng::Rng;
 use second::Written;
-use std::hint::black_box;
 
 /// What stands beside the rows, beside the output and beside the end.
 const GUARD: u32 = 0xC0DE_FACE;
 const GUARD_BYTE: u8 = 0xA5;
 const GUARD_END: usize = 0xC0DE_FACE;
-const GUARDS: usize = 16;
 /// The end before it is set.
 pub const UNSET: usize = 0x5A5A_5A5A_5A5A;
 
@@ -28,7 +27,7 @@ pub struct Found {
     /// A session was written, and read back.
     pub read: bool,
     /// What differs, each in words; model/ours.
-    pub wrongs: Vec<String>,
+    pub wrongs: Wrongs,
 }
 
 /// Both sides write into outputs with the same junk in them.
@@ -59,39 +58,22 @@ fn model(call: &Call, mut output: Vec<u8>) -> Said {
 }
 
 /// The other side, and what it wrote where it may not.
-fn ours(call: &Call, output: Vec<u8>, wrongs: &mut Vec<String>) -> Said {
-    let guards = [GUARD; GUARDS];
-    let bytes = [GUARD_BYTE; GUARDS];
-    let rows = [&guards, &call.rows[..], &guards].concat();
-    let mut lent = [&bytes, &output[..], &bytes].concat();
-    let mut ends = [GUARD_END, UNSET, GUARD_END];
-    let refusal = nergutsai::write_call(
-        &rows[GUARDS..GUARDS + call.rows.len()],
-        &mut lent[GUARDS..GUARDS + call.room],
-        call.place,
-        &mut ends[1],
-    );
-    // Rows that are lent to be read are taken as unchanged, unless it is hidden
-    // what became of them.
-    let rows = black_box(rows);
-    let (before, inside) = rows.split_at(GUARDS);
-    let (inside, after) = inside.split_at(call.rows.len());
-    if inside != call.rows {
-        wrongs.push("the rows were written to".to_string());
-    }
-    if before != guards || after != guards {
-        wrongs.push("words beside the rows".to_string());
-    }
-    if lent[..GUARDS] != bytes || lent[GUARDS + call.room..] != bytes {
-        wrongs.push("bytes beside the output".to_string());
-    }
-    if ends[0] != GUARD_END || ends[2] != GUARD_END {
-        wrongs.push("words beside the end".to_string());
-    }
+fn ours(call: &Call, output: Vec<u8>, wrongs: &mut Wrongs) -> Said {
+    let mut rows = Guarded::new(GUARD);
+    let mut lent = Guarded::new(GUARD_BYTE);
+    let mut end = Guarded::new(GUARD_END);
+    rows.set(call.rows.iter().copied());
+    lent.set(output);
+    end.set([UNSET]);
+    let refusal = nergutsai::write_call(rows.inside(), lent.lent(), call.place, &mut end.lent()[0]);
+    rows.look_at("the rows were written to", &call.rows, wrongs);
+    rows.look_beside("words beside the rows", wrongs);
+    lent.look_beside("bytes beside the output", wrongs);
+    end.look_beside("words beside the end", wrongs);
     Said {
         refusal: Some(refusal),
-        end: ends[1],
-        output: lent[GUARDS..GUARDS + call.room].to_vec(),
+        end: end.inside()[0],
+        output: lent.inside().to_vec(),
     }
 }
 

@@ -4,16 +4,14 @@ use super::call::Call;
 use super::lent::Found;
 use super::rows::{events, most, ROW, UNKNOWN};
 use super::{faults, room};
+use compare::counts::Counts;
 use compare::fields::*;
 use compare::file::{widths, LONGEST};
 use faults::Fault;
-use std::fmt::Arguments;
 
 #[derive(Default)]
 pub struct Tally {
-    lines: Vec<(String, u64)>,
-    /// The line that is next in a call.
-    at: usize,
+    counts: Counts,
 }
 
 /// What is known of a call.
@@ -71,7 +69,7 @@ impl Tally {
             place: call.place,
             left: call.room.saturating_sub(call.place),
         };
-        self.at = 0;
+        self.counts.begin();
         self.written(&seen);
         self.slices(&seen);
         self.kinds(&seen);
@@ -79,22 +77,6 @@ impl Tally {
         self.first_of_several(&seen);
         self.places(&seen);
         self.rooms(&seen);
-    }
-
-    fn hit(&mut self, name: Arguments, happened: bool) {
-        if self.lines.len() == self.at {
-            self.lines.push((name.to_string(), 0));
-        }
-        self.lines[self.at].1 += happened as u64;
-        self.at += 1;
-    }
-
-    /// A line of its own, and each of these meetings.
-    fn hits(&mut self, name: &str, happened: bool, meetings: &[(&str, bool)]) {
-        self.hit(format_args!("{name}"), happened);
-        for (meeting, met) in meetings {
-            self.hit(format_args!("{name}, {meeting}"), happened && *met);
-        }
     }
 
     fn written(&mut self, seen: &Seen) {
@@ -109,15 +91,17 @@ impl Tally {
             ("one byte to spare", left == length + 1),
             ("many bytes to spare", left > length + 1),
         ];
-        self.hits("written", written, &meetings);
+        self.counts.hits("written", written, &meetings);
         for kind in POWER_UP..=SETTLED {
             let there = seen.events.iter().any(|event| event[0] == kind);
-            self.hit(format_args!("written, kind {kind}"), written && there);
+            self.counts
+                .hit(format_args!("written, kind {kind}"), written && there);
             for (i, width) in widths(kind).unwrap_or(&[]).iter().enumerate() {
                 for value in [0, most(*width)] {
                     let name = format_args!("written, kind {kind}, field {} of {value}", i + 1);
                     let there = |event: &Event| event[0] == kind && event[i + 1] == value;
-                    self.hit(name, written && seen.events.iter().any(there));
+                    self.counts
+                        .hit(name, written && seen.events.iter().any(there));
                 }
             }
         }
@@ -131,10 +115,10 @@ impl Tally {
             ("a place past the end", seen.past()),
             ("too little room", seen.tight()),
         ];
-        self.hits("refused 32", refused, &meetings);
+        self.counts.hits("refused 32", refused, &meetings);
         for more in 1..ROW {
             let name = format_args!("refused 32, {more} over whole events");
-            self.hit(name, refused && seen.rows % ROW == more);
+            self.counts.hit(name, refused && seen.rows % ROW == more);
         }
     }
 
@@ -147,10 +131,10 @@ impl Tally {
             ("a place past the end", seen.past()),
             ("too little room", seen.tight()),
         ];
-        self.hits("refused 13", refused, &meetings);
+        self.counts.hits("refused 13", refused, &meetings);
         for kind in UNKNOWN {
             let name = format_args!("refused 13, kind {kind}");
-            self.hit(name, refused && bad[0] == kind);
+            self.counts.hit(name, refused && bad[0] == kind);
         }
     }
 
@@ -162,14 +146,14 @@ impl Tally {
             ("a place past the end", seen.past()),
             ("too little room", seen.tight()),
         ];
-        self.hits("refused 30", refused, &meetings);
+        self.counts.hits("refused 30", refused, &meetings);
         for kind in POWER_UP..=SETTLED {
             let refused = refused && bad[0] == kind;
             let widths = widths(kind).unwrap_or(&[]);
             for (at, number) in bad.into_iter().enumerate().skip(1) {
                 let Some(width) = widths.get(at - 1) else {
                     let name = format_args!("refused 30, kind {kind}, no field {at}, not 0");
-                    self.hit(name, refused && number > 0);
+                    self.counts.hit(name, refused && number > 0);
                     continue;
                 };
                 // Four bytes hold any number.
@@ -178,7 +162,7 @@ impl Tally {
                 };
                 for (how, met) in [("", number == least), ("more than ", number > least)] {
                     let name = format_args!("refused 30, kind {kind}, field {at}, {how}{least}");
-                    self.hit(name, refused && met);
+                    self.counts.hit(name, refused && met);
                 }
             }
         }
@@ -194,7 +178,7 @@ impl Tally {
             ("an event in the middle", at > 0 && at + 1 < events),
             ("the last event of several", at > 0 && at + 1 == events),
         ];
-        self.hits("refused 13 or 30", refused, &meetings);
+        self.counts.hits("refused 13 or 30", refused, &meetings);
     }
 
     fn places(&mut self, seen: &Seen) {
@@ -211,7 +195,7 @@ impl Tally {
                 place.wrapping_add(seen.length) <= room,
             ),
         ];
-        self.hits("refused 20", seen.refused(20), &meetings);
+        self.counts.hits("refused 20", seen.refused(20), &meetings);
     }
 
     fn rooms(&mut self, seen: &Seen) {
@@ -222,13 +206,11 @@ impl Tally {
             ("no events", seen.events.is_empty()),
             ("a session above 65,536 bytes", seen.length > LONGEST),
         ];
-        self.hits("refused 21", seen.refused(21), &meetings);
+        self.counts.hits("refused 21", seen.refused(21), &meetings);
     }
 
     pub fn print(&self) {
         println!("calls:");
-        for (name, times) in &self.lines {
-            println!("  {times:9}  {name}");
-        }
+        self.counts.print();
     }
 }

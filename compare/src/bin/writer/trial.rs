@@ -66,14 +66,7 @@ impl Trial {
     /// In words: so many events, or lines of the file.
     pub fn print(&self, most: usize) {
         if let Some(file) = &self.file {
-            let text = hex::text(file);
-            for line in text.lines().take(most) {
-                println!("{line}");
-            }
-            let more = text.lines().count().saturating_sub(most);
-            if more > 0 {
-                println!("# and {more} more lines: --only prints them all");
-            }
+            hex::print(file, most);
         }
         match &self.call {
             None => println!("refused when read: nothing to write"),
