@@ -23,13 +23,18 @@ pub data Height (x : Float) (h : ℕ) : Type 0 where
 
 -- ---- Two fractions on one denominator
 
+-- two tests of numbers that say the same
+same-ltb : (a b c d : ℕ) → (a < b → c < d) → (b ≤ a → d ≤ c) → ltb a b ≡ ltb c d
+same-ltb a b c d f g = go (ltb a b) refl
+  where
+    go : (t : Bool) → ltb a b ≡ t → ltb a b ≡ ltb c d
+    go true h = h ∙ sym (lt-ltb c d (f (ltb-true a b h)))
+    go false h = h ∙ sym (le-ltb c d (g (ltb-false a b h)))
+
 -- A / D and B / D are a / 65,536 and b / 65,536
 scale : (A B a b D : ℕ) → 0 < D → A * 65536 ≡ a * D → B * 65536 ≡ b * D → ltb A B ≡ ltb a b
-scale A B a b D p e f = go (ltb a b) refl
-  where
-    go : (t : Bool) → ltb a b ≡ t → ltb A B ≡ ltb a b
-    go true h = lt-ltb A B (omega (arith, mul-lt-mul-of-pos-right (ltb-true a b h) p, e, f)) ∙ sym h
-    go false h = le-ltb A B (omega (arith, mul-le-mul-right D (ltb-false a b h), e, f)) ∙ sym h
+scale A B a b D p e f =
+    sym (same-ltb a b A B (λ l. omega (arith, mul-lt-mul-of-pos-right l p, e, f)) (λ l. omega (arith, mul-le-mul-right D l, e, f)))
 
 module _ (m n : ℕ) (e d : ℤ) (a b : ℕ) (p : m * up e * 65536 ≡ a * down e) (q : n * up d * 65536 ≡ b * down d) where
   left : m * up e * down d * 65536 ≡ a * (down e * down d)
@@ -41,9 +46,6 @@ module _ (m n : ℕ) (e d : ℤ) (a b : ℕ) (p : m * up e * 65536 ≡ a * down 
       ∙ ap (λ (z : ℕ). z * down e) q
       ∙ mul-assoc b (down d) (down e)
       ∙ ap (λ (z : ℕ). b * z) (mul-comm (down d) (down e))
-
-  positive : 0 < down e * down d
-  positive = mul-pos (down-pos e) (down-pos d)
 
 -- ---- `<`
 
@@ -63,7 +65,7 @@ lt-values (fin i m e) (fin j n d) s t a b p q =
     B = right m n e d a b (p .1) (q .1)
 
     D : 0 < down e * down d
-    D = positive m n e d a b (p .1) (q .1)
+    D = mul-pos (down-pos e) (down-pos d)
 
     go : (u w : Bool) → below u (m * up e * down d) w (n * up d * down e) ≡ below u a w b
     go false false = scale (m * up e * down d) (n * up d * down e) a b (down e * down d) D A B
@@ -72,14 +74,6 @@ lt-values (fin i m e) (fin j n d) s t a b p q =
         scale 0 (m * up e * down d + n * up d * down e) 0 (a + b) (down e * down d) D (sym (zero-mul (down e * down d)))
         (add-mul (m * up e * down d) (n * up d * down e) 65536 ∙ ap₂ (λ (u w : ℕ). u + w) A B ∙ sym (add-mul a b (down e * down d)))
     go true true = scale (n * up d * down e) (m * up e * down d) b a (down e * down d) D B A
-
--- two tests of numbers that say the same
-same-ltb : (a b c d : ℕ) → (a < b → c < d) → (b ≤ a → d ≤ c) → ltb a b ≡ ltb c d
-same-ltb a b c d f g = go (ltb a b) refl
-  where
-    go : (t : Bool) → ltb a b ≡ t → ltb a b ≡ ltb c d
-    go true h = h ∙ sym (lt-ltb c d (f (ltb-true a b h)))
-    go false h = h ∙ sym (le-ltb c d (g (ltb-false a b h)))
 
 pub lt-heights : {x y : Float} {h g : ℕ} → Height x h → Height y g → lt x y ≡ ltb h g
 lt-heights {x} {y} {h} {g} (over a p e) (over b q f) =
