@@ -19,7 +19,8 @@ usage: bench/run [--rounds N] [--only NAME] [--writing | --volts] [--ours] [--he
   --only NAME    only this session: streaming, circular, simultaneous or random
   --writing      the sessions are written from their events, and not listed
   --volts        the table of lowest, highest and last volts is made of them, and not a
-                 listing; below each row stands its time over that of the listing
+                 listing; below each row stands its time over that of the listing. Of
+                 --writing and --volts the later counts
   --ours         only the proved side and no table, for a profiler
   --help         this text
 
@@ -39,7 +40,7 @@ struct Options {
 }
 
 /// What is measured.
-#[derive(Clone, Copy, PartialEq)]
+#[derive(Clone, Copy)]
 enum What {
     Listing,
     Writing,
@@ -101,9 +102,6 @@ fn options() -> Result<Options, String> {
                 };
             }
             "--only" => options.only = Some(word()?),
-            "--writing" | "--volts" if options.what != What::Listing => {
-                return Err("`--writing` and `--volts`: only one of them, and once".to_string());
-            }
             "--writing" => options.what = What::Writing,
             "--volts" => options.what = What::Volts,
             "--ours" => options.ours = true,
