@@ -11,6 +11,7 @@ use Rattle.rules.specs.Step.{Outcome, step}
 use Rattle.rules.specs.Session.{outcomes, after}
 use Rattle.rules.proofs.Choice.{either, cond-true}
 use Rattle.voltage.specs.Counting.{Counted, nothing, freshly, also, isPowerUp, startsAfresh, count, counted}
+use Rattle.voltage.specs.Table.{powerRefusal}
 use Rattle.voltage.specs.Laws.{Accepted, NoneAccepted, levelsAfter, Counts-since, Counts-none}
 use Rattle.voltage.proofs.Playing.{up-fresh}
 
@@ -85,11 +86,9 @@ pub record Powered (s : State) (es : List Event) : Type 0 where
   pub parted : es ≡ before ++ (powerUp settings ∷ later)
   pub accepted : Accepted (after s before) settings
 
-abbrev settingsIn : Settings → Event → Settings
-settingsIn d (powerUp x) = x
-settingsIn d (write a v) = d
-settingsIn d (read a) = d
-settingsIn d (signal x) = d
+abbrev isEmpty : List Event → Bool
+isEmpty [] = true
+isEmpty (e ∷ es) = false
 
 abbrev firstIn : List Event → Event
 firstIn [] = signal tick
@@ -117,21 +116,14 @@ none-more s e es h n [] later x q = not-up s e x h (ap firstIn q)
 none-more s e es h n (d ∷ before) later x q =
     subst (λ (c : Event). ¬ Accepted (after ((step s c) .state) before) x) (ap firstIn q) (n before later x (ap restIn q))
 
+-- no list with an event in it is empty
+parted-some : (before later : List Event) (e : Event) → _≡_ {A = List Event} [] (before ++ (e ∷ later)) → ⊥
+parted-some [] later e h = true≢false (ap isEmpty h)
+parted-some (b ∷ before) later e h = true≢false (ap isEmpty h)
+
 pub powered-or-not : (s : State) (es : List Event) → NoneAccepted s es ⊎ Powered s es
 unfolding after
-powered-or-not s [] = inl (λ before later x h. nothing before later x h)
-  where
-    nothing : (before later : List Event) (x : Settings) → _≡_ {A = List Event} [] (before ++ (powerUp x ∷ later)) → ¬ Accepted (after s before) x
-    nothing [] later x h a = true≢false (ap isNil h)
-      where
-        isNil : List Event → Bool
-        isNil [] = true
-        isNil (e ∷ es) = false
-    nothing (b ∷ before) later x h a = true≢false (ap isNil h)
-      where
-        isNil : List Event → Bool
-        isNil [] = true
-        isNil (e ∷ es) = false
+powered-or-not s [] = inl (λ before later x h. absurd (parted-some before later (powerUp x) h))
 powered-or-not s (e ∷ es) = go (startsAfresh e (step s e)) refl (powered-or-not ((step s e) .state) es)
   where
     go : (t : Bool) → startsAfresh e (step s e) ≡ t → NoneAccepted ((step s e) .state) es ⊎ Powered ((step s e) .state) es
@@ -153,6 +145,11 @@ powered-or-not s (e ∷ es) = go (startsAfresh e (step s e)) refl (powered-or-no
 
 abbrev pub Some : List (List ℕ) → Type 0
 Some xs = (y : List ℕ) × (ys : List (List ℕ)) × (xs ≡ y ∷ ys)
+
+pub also-counted : (x : List ℕ) (xs : List (List ℕ)) → powerRefusal (also x xs) ≡ 0 → powerRefusal xs ≡ 0
+unfolding also
+also-counted x [] h = h
+also-counted x (y ∷ ys) h = refl
 
 also-some : (x : List ℕ) (xs : List (List ℕ)) → Some xs → Some (also x xs)
 unfolding also

@@ -48,10 +48,10 @@ below-value range level l =
 
 -- ---- The laws
 
-exactly : (range level : ℕ) → level < 65536 → Exact (factor range) level (voltsOf range level)
+pub exactly : (range level : ℕ) → level < 65536 → Exact (factor range) level (voltsOf range level)
 exactly range level h = record { above = above-value range level h; below = below-value range level }
 
-factors : (factor 0 ≡ 5) × (factor 1 ≡ 10) × (factor 2 ≡ 20)
+pub factors : (factor 0 ≡ 5) × (factor 1 ≡ 10) × (factor 2 ≡ 20)
 unfolding factor
 factors = (refl, refl, refl)
 

@@ -6,4 +6,5 @@ pub mod Playing
 pub mod Counting
 pub mod Bounds
 pub mod Tables
+pub mod OfLevels
 pub mod Examples

@@ -93,7 +93,7 @@ power-some : (xs : List (List ℕ)) → powerRefusal xs ≡ 0 → Some xs
 power-some [] h = absurd (omega (arith, h))
 power-some (x ∷ xs) h = (x, xs, refl)
 
-accepted-some : (s m : List ℕ) → tableRefusal s m ≡ 0 → Some ((countedIn s m) .levels)
+pub accepted-some : (s m : List ℕ) → tableRefusal s m ≡ 0 → Some ((countedIn s m) .levels)
 unfolding tableRefusal
 accepted-some s m = go ((verdict ((session s) .end)) .number)
   where
@@ -103,7 +103,7 @@ accepted-some s m = go ((verdict ((session s) .end)) .number)
         let e : suc n ≡ 0 = sym (cond-false (eqb (suc n) 0) (powerRefusal ((countedIn s m) .levels)) (suc n) (eqb·suc-zero n)) ∙ h in
         absurd (omega (arith, e))
 
-accepted-channels : (s m : List ℕ) → tableRefusal s m ≡ 0 → tableChannels s m ≡ channelsOf (countedIn s m)
+pub accepted-channels : (s m : List ℕ) → tableRefusal s m ≡ 0 → tableChannels s m ≡ channelsOf (countedIn s m)
 accepted-channels s m h = channels-by s m 0 h
 
 -- the channel k is the one in place k; d is what stands past the end
@@ -128,14 +128,14 @@ event-sixteen s e h = go (startsAfresh e (step s e)) refl
     go false f = (h .0, event-holds (h .0) s e f (h .1))
 
 -- the earliest of them has all its channels at midrange
-abbrev Started : List (List ℕ) → Type 0
+abbrev pub Started : List (List ℕ) → Type 0
 Started [] = Unit {0}
 Started (x ∷ []) = x ≡ replicate 20 0x8000
 Started (x ∷ y ∷ ys) = Started (y ∷ ys)
 
-record Sure (xs : List (List ℕ)) : Type 0 where
-  sixteen : Each Sixteen xs
-  started : Started xs
+pub record Sure (xs : List (List ℕ)) : Type 0 where
+  pub sixteen : Each Sixteen xs
+  pub started : Started xs
 
 also-sure : (x : List ℕ) (xs : List (List ℕ)) → Sixteen x → Sure xs → Sure (also x xs)
 unfolding also
@@ -162,16 +162,16 @@ counted-sure w s (e ∷ es) h k =
     let h′ = event-sixteen s e h in
     counted-sure (count e (step s e) w) ((step s e) .state) es h′ (count-sure s e w (h′ .1 .1) k)
 
-session-sure : (s m : List ℕ) → Sure ((countedIn s m) .levels)
+pub session-sure : (s m : List ℕ) → Sure ((countedIn s m) .levels)
 unfolding countedIn
 session-sure s m = counted-sure nothing (start m) ((session s) .events) (0, start-holds) (record { sixteen = tt; started = tt })
 
 -- ---- The volts of a channel
 
-abbrev voltsIn : ℕ → ℕ → List ℕ → Float
+abbrev pub voltsIn : ℕ → ℕ → List ℕ → Float
 voltsIn range k levels = voltsOf range (getD levels k 0)
 
-volts-high : (range k : ℕ) (x : List ℕ) → Sixteen x → High (voltsIn range k x)
+pub volts-high : (range k : ℕ) (x : List ℕ) → Sixteen x → High (voltsIn range k x)
 volts-high range k x h = volts-height range _ (h k)
 
 replicate-at : (n k v : ℕ) → k < n → getD (replicate n v) k 0 ≡ v

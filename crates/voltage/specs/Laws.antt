@@ -5,6 +5,7 @@
 --   Table-exactly   a session gets each refusal number, or none, exactly when 02 says so
 --   Table-refused   a refused session has sixty positive zeros
 --   Table-bounds    lowest and highest are reached, nothing that counted lies outside, the last is the last
+--   Table-exact     each number of the table is exact, of a level of its channel that counted
 --   Zero-positive   a number of the table that is zero is positive zero
 use Prim.Native.Nat.{ℕ, _-_, _*_, _≤_, _<_}
 use mathlib.Core.Path.{_≡_}
@@ -111,10 +112,29 @@ Table-bounds =
     → tableRefusal s m ≡ 0
     → Bounds (voltsAt k (countedIn s m)) (getD (tableChannels s m) k zeros)
 
+-- the three numbers of the channel k
+abbrev pub threeOf : List ℕ → List ℕ → ℕ → List Float
+threeOf s m k = let e : Extremes = getD (tableChannels s m) k zeros in e .lowest ∷ e .highest ∷ e .last ∷ []
+
+-- "5, 10 or 20 for range 0, 1, 2"
+pub data Factor : ℕ → ℕ → Type 0 where
+  five : Factor 0 5
+  ten : Factor 1 10
+  twenty : Factor 2 20
+
+-- x is exact: the volts of a level that the channel k had when its levels counted, in the range of the power-up
+pub record OfLevel (w : Counted) (k : ℕ) (x : Float) : Type 0 where
+  pub later : List (List ℕ)
+  pub levels : List ℕ
+  pub earlier : List (List ℕ)
+  pub counts : w .levels ≡ later ++ (levels ∷ earlier)
+  pub times : ℕ
+  pub factor : Factor (w .range) times
+  pub exact : Exact times (getD levels k 0) x
+
+abbrev pub Table-exact : Type 0
+Table-exact = (s m : List ℕ) (k : ℕ) (x : Float) → k < 20 → tableRefusal s m ≡ 0 → OneOf x (threeOf s m k) → OfLevel (countedIn s m) k x
+
 -- 02: "Zero is positive zero.", also where it comes back from below
 abbrev pub Zero-positive : Type 0
-Zero-positive =
-    (s m : List ℕ) (k : ℕ) (x : Float)
-    → (let e : Extremes = getD (tableChannels s m) k zeros in OneOf x (e .lowest ∷ e .highest ∷ e .last ∷ []))
-    → eq x zeroVolts ≡ true
-    → x ≡ zeroVolts
+Zero-positive = (s m : List ℕ) (k : ℕ) (x : Float) → OneOf x (threeOf s m k) → eq x zeroVolts ≡ true → x ≡ zeroVolts

@@ -2,14 +2,14 @@
 use Prim.Native.Nat.{ℕ}
 use mathlib.Core.Path.{_≡_, refl, _∙_}
 use mathlib.Core.Bool.{false}
-use mathlib.Core.List.{List, [], _∷_}
+use mathlib.Core.List.{List}
 use Rattle.rules.specs.declared.Event.{Event}
 use Rattle.rules.specs.declared.Board.{Board}
 use Rattle.rules.specs.Record.{State, start}
 use Rattle.rules.specs.Step.{step}
 use Rattle.rules.proofs.Choice.{cases}
-use Rattle.voltage.specs.Counting.{Counted, nothing, also, startsAfresh, count}
-use Rattle.voltage.specs.Table.{powerRefusal}
+use Rattle.voltage.specs.Counting.{Counted, nothing, startsAfresh, count}
+use Rattle.voltage.proofs.Counting.{also-counted}
 use Rattle.voltage.proofs.Playing.{Sixteen, start-holds, event-holds}
 use Rattle.voltage.proofs.Tables.{event-sixteen}
 use Rattle.volts.specs.Watching.{SameRange}
@@ -23,11 +23,6 @@ start-suits m = (λ _. start-holds .0, start-holds .1)
 -- an event that starts nothing afresh keeps the range
 pub range-kept : (s : State) (e : Event) (w : Counted) → Suits w (s .board) → startsAfresh e (step s e) ≡ false → SameRange w ((step s e) .state .board)
 range-kept s e w h f z = (event-holds _ s e f (refl, h .1)) .0 ∙ h .0 z
-
-also-counted : (x : List ℕ) (xs : List (List ℕ)) → powerRefusal (also x xs) ≡ 0 → powerRefusal xs ≡ 0
-unfolding also
-also-counted x [] h = h
-also-counted x (y ∷ ys) h = refl
 
 pub suits-on : (s : State) (e : Event) (w : Counted) → Suits w (s .board) → Suits (count e (step s e) w) ((step s e) .state .board)
 unfolding count
