@@ -26,16 +26,16 @@ at-three f n z h (x ∷ xs) (suc k) =
     let e : 3 * suc k + n ≡ suc (suc (suc (3 * k + n))) = omega arith in
     ap (λ (i : ℕ). getD (numbersOf (x ∷ xs)) i nan) e ∙ at-three f n z h xs k
 
--- those of the first k channels are written, over what was there
-pub record Written (a₀ : List Float) (xs : List Extremes) (k : ℕ) (a : List Float) : Type 0 where
+-- those of the first k channels stand there, over what was there
+pub record Filled (a₀ : List Float) (xs : List Extremes) (k : ℕ) (a : List Float) : Type 0 where
   pub room : length a₀ ≡ 60
   pub twenty : length xs ≡ 20
   pub within : k ≤ 20
   pub so-far : a ≡ paste a₀ 0 (numbersOf xs) (3 * k)
 
 module _ (a₀ : List Float) (xs : List Extremes) (l : length a₀ ≡ 60) (m : length xs ≡ 20) where
-  pub written-none : Written a₀ xs 0 a₀
-  written-none = record { room = l; twenty = m; within = omega arith; so-far = paste-zero a₀ 0 (numbersOf xs) }
+  pub filled-none : Filled a₀ xs 0 a₀
+  filled-none = record { room = l; twenty = m; within = omega arith; so-far = paste-zero a₀ 0 (numbersOf xs) }
 
   -- one more number
   one : (j n : ℕ) (v : Float) → j < 60 → v ≡ getD (numbersOf xs) j nan → suc j ≡ n → set (paste a₀ 0 (numbersOf xs) j) j v ≡ paste a₀ 0 (numbersOf xs) n
@@ -46,11 +46,11 @@ module _ (a₀ : List Float) (xs : List Extremes) (l : length a₀ ≡ 60) (m : 
       ∙ paste-suc a₀ 0 (numbersOf xs) j nan far in-numbers
       ∙ ap (paste a₀ 0 (numbersOf xs)) next
 
-module _ {a₀ : List Float} {xs : List Extremes} {k : ℕ} {a : List Float} (w : Written a₀ xs k a) where
-  pub written-next : k < 20 → (x : Extremes) → x ≡ getD xs k none
-      → Written a₀ xs (k + 1) (set (set (set a (3 * k) (x .lowest)) (3 * k + 1) (x .highest)) (3 * k + 2) (x .last))
+module _ {a₀ : List Float} {xs : List Extremes} {k : ℕ} {a : List Float} (w : Filled a₀ xs k a) where
+  pub filled-next : k < 20 → (x : Extremes) → x ≡ getD xs k none
+      → Filled a₀ xs (k + 1) (set (set (set a (3 * k) (x .lowest)) (3 * k + 1) (x .highest)) (3 * k + 2) (x .last))
   unfolding numbersOf
-  written-next h x e =
+  filled-next h x e =
       let put = one a₀ xs (w .room) (w .twenty) in
       let low = ap (λ (y : Extremes). y .lowest) e ∙ sym (ap (λ (n : ℕ). getD (numbersOf xs) n nan) (sym (add-zero (3 * k))) ∙ at-three (λ y. y .lowest) 0 refl (λ y ys. refl) xs k) in
       let high = ap (λ (y : Extremes). y .highest) e ∙ sym (at-three (λ y. y .highest) 1 refl (λ y ys. refl) xs k) in
@@ -66,8 +66,8 @@ module _ {a₀ : List Float} {xs : List Extremes} {k : ℕ} {a : List Float} (w 
             ∙ put (3 * k + 2) (3 * (k + 1)) (x .last) (omega (arith, h)) last (omega arith);
       }
 
-  pub written-all : 20 ≤ k → a ≡ numbersOf xs
-  written-all h =
+  pub filled-all : 20 ≤ k → a ≡ numbersOf xs
+  filled-all h =
       let e : 3 * k ≡ length (numbersOf xs) = omega (arith, h, w .within, w .twenty, numbers-length xs) in
       let past : length a₀ ≤ 0 + length (numbersOf xs) = omega (arith, w .room, w .twenty, numbers-length xs) in
       w .so-far

@@ -14,7 +14,7 @@ use lib.Pow.{shl-lt}
 use lib.Ieee.{Float, nan, inf, fin, binary32, neg, lt, eq, le, below, up, down}
 use lib.Ieee.Fits.{down-pos}
 use lib.Ieee.Exact.{HasValue, round-exact}
-use Rattle.rules.proofs.Choice.{or-left, or-right}
+use Rattle.rules.proofs.Choice.{or-left, or-right, same-test}
 use Rattle.voltage.specs.Volts.{share, zeroVolts}
 
 pub data Height (x : Float) (h : ℕ) : Type 0 where
@@ -25,11 +25,7 @@ pub data Height (x : Float) (h : ℕ) : Type 0 where
 
 -- two tests of numbers that say the same
 same-ltb : (a b c d : ℕ) → (a < b → c < d) → (b ≤ a → d ≤ c) → ltb a b ≡ ltb c d
-same-ltb a b c d f g = go (ltb a b) refl
-  where
-    go : (t : Bool) → ltb a b ≡ t → ltb a b ≡ ltb c d
-    go true h = h ∙ sym (lt-ltb c d (f (ltb-true a b h)))
-    go false h = h ∙ sym (le-ltb c d (g (ltb-false a b h)))
+same-ltb a b c d f g = same-test (ltb a b) (ltb c d) (λ h. lt-ltb c d (f (ltb-true a b h))) (λ h. le-ltb c d (g (ltb-false a b h)))
 
 -- A / D and B / D are a / 65,536 and b / 65,536
 scale : (A B a b D : ℕ) → 0 < D → A * 65536 ≡ a * D → B * 65536 ≡ b * D → ltb A B ≡ ltb a b

@@ -8,7 +8,7 @@ use native.Mathlib.Nat.{not-suc-le-zero, add-zero, zero-add, add-suc, suc-add}
 use native.Mathlib.Omega.{arith}
 use borrow.Author.Tests.{ne-eqb}
 use lib.Dec.{eqb, eqb·suc-zero}
-use lib.ListN.{getD, replicate}
+use lib.ListN.{getD, replicate, getD-replicate}
 use lib.Ieee.{Float, eq}
 use Rattle.laws.specs.Types.{Event}
 use Rattle.rules.specs.Record.{State, start}
@@ -174,14 +174,9 @@ voltsIn range k levels = voltsOf range (getD levels k 0)
 pub volts-high : (range k : ℕ) (x : List ℕ) → Sixteen x → High (voltsIn range k x)
 volts-high range k x h = volts-height range _ (h k)
 
-replicate-at : (n k v : ℕ) → k < n → getD (replicate n v) k 0 ≡ v
-replicate-at zero k v l = absurd (not-suc-le-zero l)
-replicate-at (suc n) zero v l = refl
-replicate-at (suc n) (suc k) v l = replicate-at n k v (omega (arith, l))
-
 zero-among : (range k : ℕ) → k < 20 → (x : List ℕ) (xs : List (List ℕ)) → Started (x ∷ xs) → OneOf zeroVolts (map (voltsIn range k) (x ∷ xs))
 zero-among range k l x [] h =
-    let e : getD x k 0 ≡ 32768 = ap (λ (ls : List ℕ). getD ls k 0) h ∙ replicate-at 20 k 0x8000 l in
+    let e : getD x k 0 ≡ 32768 = ap (λ (ls : List ℕ). getD ls k 0) h ∙ getD-replicate 20 k 0x8000 0 l in
     ([], [], ap (λ (v : Float). v ∷ []) (ap (voltsOf range) e ∙ midrange-zero range))
 zero-among range k l x (y ∷ ys) h =
     let r = zero-among range k l y ys h in

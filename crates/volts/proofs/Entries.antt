@@ -1,8 +1,8 @@
--- The channels of a table, entered one after another; and two tables that agree in each of their places are one.
-use Prim.Native.Nat.{ℕ, suc, _+_, _≤_, _<_}
+-- The channels of a table, entered one after another.
+use Prim.Native.Nat.{ℕ, _+_, _≤_, _<_}
 use mathlib.Core.Path.{_≡_, refl, sym, ap, _∙_}
 use mathlib.Core.Bool.{Bool}
-use mathlib.Core.List.{List, [], _∷_}
+use mathlib.Core.List.{List}
 use native.Mathlib.Nat.{le-refl}
 use native.Mathlib.Decide.{ℕ-discrete}
 use native.Mathlib.Omega.{arith}
@@ -50,14 +50,3 @@ module _ (fresh : Bool) (ts : List Extremes) (range : ℕ) (levels : List ℕ) w
 
   pub upto-all : (k : ℕ) (t : List Extremes) → 20 ≤ k → Upto k t → AllEntered fresh ts range levels t
   upto-all k t l u = record { twenty = u .long; each = λ j b. u .done j (omega (arith, b, l)) }
-
--- ---- Tables that agree
-
-pub same-entries : (xs ys : List Extremes) → length xs ≡ length ys → ((k : ℕ) → k < length xs → getD xs k none ≡ getD ys k none) → xs ≡ ys
-same-entries [] [] h f = refl
-same-entries [] (y ∷ ys) h f = absurd (omega (arith, h))
-same-entries (x ∷ xs) [] h f = absurd (omega (arith, h))
-same-entries (x ∷ xs) (y ∷ ys) h f =
-    let head = f 0 (omega arith) in
-    let tail = same-entries xs ys (omega (arith, h)) (λ k l. f (suc k) (omega (arith, l))) in
-    λ i. head i ∷ tail i

@@ -6,6 +6,7 @@ use mathlib.Core.List.{List, [], _∷_}
 use native.Mathlib.Omega.{arith}
 use lib.Dec.{eqb}
 use lib.ListN.{length, getD}
+use lib.Seq.{ext-getD}
 use Rattle.rules.specs.declared.Board.{Board}
 use Rattle.files.specs.declared.End.{End}
 use Rattle.files.specs.declared.End.the-variants.{File, Refused}
@@ -18,7 +19,6 @@ use Rattle.voltage.specs.Extremes.{picked, lastOf}
 use Rattle.voltage.specs.Table.{channel, channelsFrom, channelsOf, countedIn, powerRefusal, tableRefusal, tableChannels}
 use Rattle.voltage.proofs.Tables.{fault-some, file-refused, file-ended, channels-by, channel-at}
 use Rattle.volts.specs.Watching.{none, entered, AllEntered, tableOf, watched, closedTable, RecordEntered}
-use Rattle.volts.proofs.Entries.{same-entries}
 
 -- ---- One more record
 
@@ -55,7 +55,7 @@ pub record-entered : (fresh : Bool) (b : Board) (ts r : List Extremes)
     → AllEntered fresh ts (b .core .options .range) (b .core .outputs .levels) r
     → RecordEntered fresh b ts (record { refusal = 0; channels = r })
 record-entered fresh b ts r a w e h =
-    let q = same-entries r (channelsOf (watched fresh b w)) (a .twenty ∙ sym (twenty (watched fresh b w))) (λ k l. go k (subst (λ (n : ℕ). k < n) (a .twenty) l)) in
+    let q = ext-getD none r (channelsOf (watched fresh b w)) (a .twenty ∙ sym (twenty (watched fresh b w))) (λ k l. go k (subst (λ (n : ℕ). k < n) (a .twenty) l)) in
     let z = something fresh b (w .range) (w .levels) h in
     λ i. record { refusal = z i; channels = q i }
   where
@@ -70,19 +70,19 @@ record-entered fresh b ts r a w e h =
 -- ---- Before the first accepted power-up
 
 -- the test by which `watch` leaves the table as it is
-abbrev pub idle : Bool → ℕ → Bool
-idle fresh n = not fresh && not (eqb n 0)
+abbrev pub waits : Bool → ℕ → Bool
+waits fresh n = not fresh && not (eqb n 0)
 
-pub nothing-yet : (fresh : Bool) (b : Board) (w : Counted) → idle fresh (powerRefusal (w .levels)) ≡ true → w ≡ watched fresh b w
+pub nothing-yet : (fresh : Bool) (b : Board) (w : Counted) → waits fresh (powerRefusal (w .levels)) ≡ true → w ≡ watched fresh b w
 unfolding also
 nothing-yet fresh b w = go fresh (w .levels) refl
   where
-    go : (t : Bool) (xs : List (List ℕ)) → w .levels ≡ xs → idle t (powerRefusal xs) ≡ true → w ≡ watched t b w
+    go : (t : Bool) (xs : List (List ℕ)) → w .levels ≡ xs → waits t (powerRefusal xs) ≡ true → w ≡ watched t b w
     go true xs e h = absurd (false≢true h)
     go false [] e h = λ i. record { range = w .range; levels = (e ∙ sym (ap (also (b .core .outputs .levels)) e)) i }
     go false (x ∷ xs) e h = absurd (false≢true h)
 
-pub something-yet : (fresh : Bool) (xs : List (List ℕ)) → idle fresh (powerRefusal xs) ≡ false → fresh ≡ false → powerRefusal xs ≡ 0
+pub something-yet : (fresh : Bool) (xs : List (List ℕ)) → waits fresh (powerRefusal xs) ≡ false → fresh ≡ false → powerRefusal xs ≡ 0
 something-yet true xs h f = absurd (true≢false f)
 something-yet false [] h f = absurd (true≢false h)
 something-yet false (x ∷ xs) h f = refl

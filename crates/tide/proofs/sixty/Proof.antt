@@ -3,18 +3,18 @@ use Prim.Native.Nat.{_-_}
 use mathlib.Core.Path.{refl}
 use native.Mathlib.Omega.{arith}
 use borrow.Author.Needs.{needs}
-use Rattle.tide.proofs.Numbers.{Written, written-none, written-next, written-all}
+use Rattle.tide.proofs.Numbers.{Filled, filled-none, filled-next, filled-all}
 use Rattle.tide.proofs.sixty.Statement.{statement}
 use Rattle.tide.proofs.sixty.Tie as tie
 
 abbrev Inv-loop : tie.InvT-loop
-Inv-loop channels numbers₀ k₀ numbers k = Written numbers₀ channels k numbers
+Inv-loop channels numbers₀ k₀ numbers k = Filled numbers₀ channels k numbers
 
 abbrev μ-loop : tie.MeasureT-loop
 μ-loop channels numbers₀ k₀ numbers k = 20 - k
 
 loop-holds : tie.Need-loop-holds Inv-loop μ-loop
-loop-holds c = written-none _ _ refl (search needs)
+loop-holds c = filled-none _ _ refl (search needs)
 
 mul-x : tie.Need-mul-x Inv-loop μ-loop
 mul-x c = omega arith
@@ -62,10 +62,10 @@ loop-less : tie.Need-loop-less Inv-loop μ-loop
 loop-less c = omega arith
 
 loop-again : tie.Need-loop-again Inv-loop μ-loop
-loop-again c = written-next (c .before .before .loop .inv) (omega arith) _ refl
+loop-again c = filled-next (c .before .before .loop .inv) (omega arith) _ refl
 
 returns : tie.Need-returns Inv-loop μ-loop
-returns c = written-all (c .before .loop .inv) (omega arith)
+returns c = filled-all (c .before .loop .inv) (omega arith)
 
 pub sixty-spec : {M : Type 1} → statement M
 sixty-spec =
