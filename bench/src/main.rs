@@ -1,4 +1,4 @@
-//! Lists or writes four sessions, or makes their tables of volts, many times in one process, through the proved code and through the second model, written in Rust,
+//! Lists or writes five sessions, or makes their tables of volts, many times in one process, through the proved code and through the second model, written in Rust,
 //! and prints how many events a second each takes and the ratio of their times.
 
 mod sessions;
@@ -16,7 +16,7 @@ usage: bench/run [--rounds N] [--only NAME] [--writing | --volts] [--ours] [--he
 
   --rounds N     how often each session is replayed on each side, a number from 1
                  (default 2000); in turns, and the best is taken
-  --only NAME    only this session: streaming, circular, simultaneous or random
+  --only NAME    only this session: streaming, sparse, circular, simultaneous or random
   --writing      the sessions are written from their events, and not listed
   --volts        the table of lowest, highest and last volts is made of them, and not a
                  listing; below each row stands its time over that of the listing. Of

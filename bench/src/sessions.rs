@@ -1,4 +1,4 @@
-//! The four sessions that are replayed, each a session file of nearly 65,536 bytes, and its events as rows.
+//! The five sessions that are replayed, each a session file of nearly 65,536 bytes, and its events as rows.
 
 /// 01: "at most 65,536 bytes".
 const LONGEST: usize = 65_536;
@@ -27,6 +27,7 @@ pub struct Sessions {
 pub fn all() -> Vec<Sessions> {
     vec![
         named("streaming", streaming()),
+        named("sparse", sparse()),
         named("circular", circular()),
         named("simultaneous", simultaneous()),
         named("random", random()),
@@ -106,7 +107,17 @@ fn sample(i: u32) -> u32 {
 
 /// Values are loaded a few at a time and played to the channels one after another.
 fn streaming() -> Session {
+    streamed(Session::new())
+}
+
+/// The same to the last channel alone: for each value the search goes past all others.
+fn sparse() -> Session {
     let mut session = Session::new();
+    session.write(MASK, 1 << 19);
+    streamed(session)
+}
+
+fn streamed(mut session: Session) -> Session {
     let mut i = 0;
     while session.takes(16 * 11 + 4) {
         for _ in 0..16 {

@@ -1,6 +1,5 @@
 -- What the functions' proofs cite, and those of `moves`; each file opens with what it shows.
 pub mod Heads
-pub mod Lowest
 pub mod Single
 pub mod Moving
 pub mod Ranges

@@ -7,7 +7,8 @@ ghost use Rattle.rules.specs.Clocks.{nextChannel, targets, cursorAfter};
 ghost use Rattle.channels.specs.Serving.{servedBy};
 use rules::Core;
 
-// The lowest active channel from k up, 20 where there is none.
+// The lowest active channel from k up, 20 where there is none. 02: "count trailing zeros on the mask from the cursor up"; why that finds
+// it is said in laws/specs/Search.antt (`Cursor-zeros`). Where no bit is left the zeros are 32.
 pub(crate) fn lowest_from(mask: u32, k: u32) -> u32
     requires { ⌜ k ≤ 20 ⌝ }
     ensures { λ r. ⌜ r ≡ headOr 20 (activeFrom k mask) ⌝ }

@@ -16,6 +16,10 @@ use Rattle.laws.specs.Moved.{Among, LowestFrom}
 use Rattle.rules.proofs.Choice.{cases, either}
 use Rattle.laws.proofs.Among.{among-nil, among-head, among-tail, among-cons, Ascending, ascending-nil, ascending-cons}
 
+-- one digit more is taken off
+pub halved : (mask k : ℕ) → mask / 2 ^ suc k ≡ mask / 2 ^ k / 2
+halved mask k = ap (λ (x : ℕ). mask / x) (pow-suc 2 k) ∙ sym (div-div-eq-div-mul mask (2 ^ k) 2)
+
 -- ---- Which
 
 pub active-to : (n k mask j : ℕ) → Among j (active n k mask) → (bit j mask ≡ true) × (k ≤ j)
@@ -110,7 +114,7 @@ active-ones zero k mask h =
     rw e (sym ones-zero)
 active-ones (suc n) k mask h =
     let m : ℕ = mask / 2 ^ k in
-    let q : mask / 2 ^ suc k ≡ m / 2 = ap (λ (x : ℕ). mask / x) (pow-suc 2 k) ∙ sym (div-div-eq-div-mul mask (2 ^ k) 2) in
+    let q : mask / 2 ^ suc k ≡ m / 2 = halved mask k in
     let r : length (active n (suc k) mask) ≡ ones (m / 2) = active-ones n (suc k) mask (rw q (omega (arith, pow-suc 2 n))) ∙ ap ones q in
     let s = ones-step m in
     cases (λ (ks : List ℕ). length ks ≡ ones m) (eqb (m % 2) 1)

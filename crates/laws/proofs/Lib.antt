@@ -4,6 +4,7 @@
 pub mod AddedBits
 pub mod Among
 pub mod Actives
+pub mod Search
 pub mod Levels
 pub mod Places
 pub mod Again

@@ -15,10 +15,11 @@ use Rattle.rules.specs.Bits.{bit, activeFrom}
 use Rattle.rules.specs.Clocks.{coded}
 use Rattle.rules.specs.declared.Ring.{Ring}
 use Rattle.rules.proofs.Choice.{cond-true, cond-false}
+use Rattle.laws.specs.Search.{without, ByZeros}
+use Rattle.laws.proofs.Search.{some-mask, group-zeros}
 use Rattle.moves.specs.Ready.{Ready}
 use Rattle.moves.specs.Deal.{Dealing, dealing, front, left, placeNow, dealOne, dealAll}
 use Rattle.moves.proofs.Rings.{ready-good, left-placed}
-use Rattle.channels.proofs.Lowest.{Walk, without, some-mask, walk-mask}
 
 -- ---- One value
 
@@ -72,8 +73,8 @@ module _ {mask : ℕ} {binary again : Bool} {d : ℕ} {s₀ s : Dealing} {waitin
   inv-some h = some-mask waiting (rw (v .lowest) at h)
 
   -- the channels that wait: this one, and those after it; or none
-  walked : Walk 20 0 waiting (without waiting) k
-  walked = rw (← v .lowest) at (walk-mask waiting)
+  zeros : ByZeros 20 0 waiting (without waiting) k
+  zeros = rw (← v .lowest) at (group-zeros waiting)
 
   inv-dealt : k < 20 → zero < s .ring .count
       → Inv mask binary again d s₀ (dealOne binary again d k s) (without waiting) (trailingZeros 32 (without waiting))
@@ -86,7 +87,7 @@ module _ {mask : ℕ} {binary again : Bool} {d : ℕ} {s₀ s : Dealing} {waitin
         lowest = refl;
         ready = λ _. record { first = m .good .first-lt; count = m .good .count-le; enough = m .good .enough; small = r .small };
         same = m .same .long ∙ v .same;
-        whole = sym on ∙ rw (walked .there h) at (v .whole);
+        whole = sym on ∙ rw (zeros .there h) at (v .whole);
       }
 
   pub inv-turn : {s′ : Dealing} → k < 20 → zero < s .ring .count → s′ ≡ dealOne binary again d k s
@@ -103,4 +104,4 @@ module _ {mask : ℕ} {binary again : Bool} {d : ℕ} {s₀ s : Dealing} {waitin
       go true e =
           let z : ltb 0 (s .ring .count) ≡ false = sym (ap (λ (t : Bool). t && ltb 0 (s .ring .count)) e) ∙ h in
           sym (dealt-empty binary again d (activeFrom 0 waiting) s (omega (arith, ltb-false 0 (s .ring .count) z))) ∙ v .whole
-      go false e = rw (walked .none (ltb-false k 20 e)) at (v .whole)
+      go false e = rw (zeros .none (ltb-false k 20 e)) at (v .whole)

@@ -8,7 +8,7 @@ use borrow.Author.Tests.{ltb-true}
 use lib.Dec.{ltb}
 use Rattle.rules.specs.Bits.{bit, activeFrom}
 use Rattle.rules.proofs.Choice.{and-both}
-use Rattle.channels.proofs.Lowest.{without-less}
+use Rattle.laws.proofs.Search.{without-less}
 use Rattle.moves.specs.Deal.{dealing, dealAll}
 use Rattle.moves.proofs.Entries.{mask-ready}
 use Rattle.moves.proofs.Loop.{one-dealt, Inv, inv-start, inv-some, inv-turn, inv-end}
