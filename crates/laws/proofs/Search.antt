@@ -1,8 +1,8 @@
 -- Counting zeros is the search: by the lowest digit of a mask, of the mask without its lowest one, and of their halves.
-use Prim.Native.Nat.{ℕ, zero, suc, _+_, _-_, _*_, _/_, _%_, _^_, _≤_, _<_, min}
+use Prim.Native.Nat.{ℕ, zero, suc, _+_, _-_, _*_, _/_, _%_, _^_, _<_, min}
 use mathlib.Core.Path.{_≡_, refl, sym, ap, subst, _∙_}
 use mathlib.Core.Bool.{Bool, true, false, cond}
-use mathlib.Core.List.{[], _∷_}
+use mathlib.Core.List.{_∷_}
 use native.Mathlib.Nat.{mod-lt, min-zero, zero-min, min-eq-left, min-eq-right, div-one, zero-add, mul-div-cancel}
 use native.Mathlib.Omega.{arith}
 use borrow.Author.Tests.{eq-eqb, ne-eqb, ltb-true, ltb-false}
@@ -11,7 +11,7 @@ use lib.Bits.{bitAnd, and-step, and-self, and-le-r}
 use lib.Count.{trailingZeros, under, trailing-of-zero}
 use lib.Dec.{eqb, ltb}
 use lib.Pow.{pow-pos}
-use Rattle.rules.specs.Bits.{bit, active, activeFrom, headOr}
+use Rattle.rules.specs.Bits.{active, activeFrom, headOr}
 use Rattle.rules.proofs.Choice.{cond-true, cond-false}
 use Rattle.laws.specs.Search.{without, zerosTo, ByZeros, Zeros-tell, wordBits, Cursor-zeros, Group-zeros}
 use Rattle.laws.proofs.Actives.{halved}
@@ -64,10 +64,11 @@ zeros-tell (suc n) (suc w) k mask rest h e =
     go (mask / 2 ^ k % 2) refl (mod-lt (mask / 2 ^ k) (omega arith))
     (λ f. rw (halved mask k) at (zeros-tell n w (suc k) mask rest (omega arith) (f ∙ ap without (sym (halved mask k)))))
   where
-    -- the rest has no channel k, and from the next one up the digits of the half
+    -- from the next channel up the rest has the digits of the half
     upper : {half : ℕ} → Low (mask / 2 ^ k) half → rest / 2 ^ suc k ≡ half
     upper o = halved rest k ∙ ap (λ (y : ℕ). y / 2) e ∙ o .halves
 
+    -- and it has no channel k
     other : {half : ℕ} → Low (mask / 2 ^ k) half → active n (suc k) rest ≡ active (suc n) k rest
     other o =
         let z : rest / 2 ^ k % 2 ≡ 0 = ap (λ (y : ℕ). y % 2) e ∙ o .even in
@@ -99,7 +100,7 @@ pub cursor-zeros : Cursor-zeros
 unfolding headOr
 cursor-zeros k mask h = go (ltb (zerosTo wordBits k mask) 20) refl
   where
-    -- of the rest the search asks nothing: any will do
+    -- what rests is not asked for here: any mask with the right digits will do
     tell : ByZeros (20 - k) k mask (without (mask / 2 ^ k) * 2 ^ k) (zerosTo wordBits k mask)
     tell = zeros-tell (20 - k) wordBits k mask _ (omega arith) (mul-div-cancel (without (mask / 2 ^ k)) (pow-pos k))
 

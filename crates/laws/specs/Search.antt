@@ -24,16 +24,16 @@ example-next : zerosTo 32 4 0x50008 ≡ 16
 unfolding trailingZeros
 example-next = refl
 
--- The zeros lead to `at`. Of the n channels from k up
+-- The zeros lead to `at`, and this is known of the n channels from k up:
 pub record ByZeros (n k mask rest at : ℕ) : Type 0 where
-  -- that is the lowest active one, if it is one of them, and the others that are active stand in `rest`
+  -- if `at` is one of them, it is the lowest active one, and the others that are active are those of `rest`
   pub there : at < n + k → active n k mask ≡ at ∷ active n k rest
-  -- and none is active, if it is not
+  -- if it lies past them, none is active
   pub none : n + k ≤ at → active n k mask ≡ []
 
 -- ---- The law
 
--- For every width w: the word has a bit at least for each channel, and `rest` is, from bit k up, the mask without its lowest one.
+-- For words of every width w that have a bit for each of the channels. `rest` is, from bit k up, the mask without its lowest one.
 abbrev pub Zeros-tell : Type 0
 Zeros-tell =
     (n w k mask rest : ℕ)
@@ -47,10 +47,11 @@ Zeros-tell =
 abbrev pub wordBits : ℕ
 wordBits = 32
 
--- The search. 01: "to the lowest active channel at or above the cursor": 20 says that there is none, and 20 or more zeros say 20.
+-- The search from a cursor k. 01: "to the lowest active channel at or above the cursor". 20 says that there is none, as do zeros that
+-- lead past channel 19.
 abbrev pub Cursor-zeros : Type 0
 Cursor-zeros = (k mask : ℕ) → k ≤ 20 → headOr 20 (activeFrom k mask) ≡ min (zerosTo wordBits k mask) 20
 
--- The walk over a group. 01: "as many values as the mask has ones, ascending": the lowest, and then those of the mask without it.
+-- The walk over a group. 01: "as many values as the mask has ones, ascending". First the lowest, and then those of the mask without it.
 abbrev pub Group-zeros : Type 0
 Group-zeros = (mask : ℕ) → ByZeros 20 0 mask (without mask) (trailingZeros wordBits mask)
