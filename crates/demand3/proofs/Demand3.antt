@@ -7,12 +7,13 @@ use native.Mathlib.Nat.{le-refl}
 use lib.ListN.{take}
 use Rattle.rules.specs.declared.Core.{Core}
 use Rattle.rules.specs.declared.Event.{Event}
+use Rattle.rules.specs.declared.Event.the-variants.{PowerUp as powerUp, Write as write, Read as read, Signal as signal}
 use Rattle.rules.specs.Bits.{all}
 use Rattle.rules.specs.Record.{State, values, stored, soundCore, unpowered, start}
 use Rattle.rules.specs.Clocks.{closed}
-use Rattle.rules.specs.Step.{step}
+use Rattle.rules.specs.Step.{Outcome, step}
 use Rattle.rules.specs.Session.{outcomes, after}
-use Rattle.demand3.specs.Demand3.{AllNeverLower, none, next, PowerUpsAccepted, NothingLost, NoQuarters, Alike, SameAnswers, Agree, Demand3, Demand3-from-any, Demand3-as-ordered}
+use Rattle.demand3.specs.Demand3.{NeverLower, same, deeper, larger, AllNeverLower, none, next, PowerUpAccepted, PowerUpsAccepted, NothingLost, NoQuarters, Alike, SameAnswers, Agree, Demand3, Demand3-from-any, Demand3-as-ordered, PowerUpAlike, PowerUpsAlike, Demand3-alike}
 use Rattle.demand3.proofs.TwoRuns.{Related, Together, step-together, up-request, power-up-together}
 
 -- ---- Two runs from related states
@@ -25,12 +26,12 @@ record Both (s : State) (es : List Event) (s′ : State) (es′ : List Event) : 
   pub request : NoQuarters s es → s .board .request ≡ s′ .board .request → (after s es) .board .request ≡ (after s′ es′) .board .request
 
 runs : (s s′ : State) {es es′ : List Event} → AllNeverLower es es′ → Related s s′
-    → PowerUpsAccepted s es → PowerUpsAccepted s′ es′ → NothingLost s es → Both s es s′ es′
-unfolding outcomes after PowerUpsAccepted NothingLost NoQuarters
-runs s s′ none r a a′ l = record { lossless = tt; related = r; answers = none; request = λ q h. h }
-runs s s′ (next {e} {e′} {es} {es′} w ws) r a a′ l =
-    let t : Together s s′ (step s e) (step s′ e′) = step-together s s′ w r (a .0) (a′ .0) (l .0) in
-    let u : Both ((step s e) .state) es ((step s′ e′) .state) es′ = runs ((step s e) .state) ((step s′ e′) .state) ws (t .related) (a .1) (a′ .1) (l .1) in
+    → PowerUpsAlike s es s′ es′ → NothingLost s es → Both s es s′ es′
+unfolding outcomes after PowerUpsAlike NothingLost NoQuarters
+runs s s′ none r a l = record { lossless = tt; related = r; answers = none; request = λ q h. h }
+runs s s′ (next {e} {e′} {es} {es′} w ws) r a l =
+    let t : Together s s′ (step s e) (step s′ e′) = step-together s s′ w r (a .0) (l .0) in
+    let u : Both ((step s e) .state) es ((step s′ e′) .state) es′ = runs ((step s e) .state) ((step s′ e′) .state) ws (t .related) (a .1) (l .1) in
     record {
       lossless = (t .lossless, u .lossless);
       related = u .related;
@@ -50,9 +51,9 @@ related-alike s s′ r =
     }
 
 agree : (s s′ : State) {es es′ : List Event} → AllNeverLower es es′ → Related s s′ → s .board .request ≡ s′ .board .request
-    → PowerUpsAccepted s es → PowerUpsAccepted s′ es′ → NothingLost s es → Agree s es s′ es′
-agree s s′ w r q a a′ l =
-    let b = runs s s′ w r a a′ l in
+    → PowerUpsAlike s es s′ es′ → NothingLost s es → Agree s es s′ es′
+agree s s′ w r q a l =
+    let b = runs s s′ w r a l in
     record {
       lossless = b .lossless;
       alike = related-alike _ _ (b .related);
@@ -60,6 +61,21 @@ agree s s′ w r q a a′ l =
       answers = b .answers;
       request = λ n. b .request n q;
     }
+
+-- ---- "every power-up accepted in both": so each gets the same number, 0
+
+one-accepted : {e e′ : Event} (o o′ : Outcome) → NeverLower e e′ → PowerUpAccepted e o → PowerUpAccepted e′ o′ → PowerUpAlike e o o′
+one-accepted o o′ (deeper x d h) a a′ = a ∙ sym a′
+one-accepted o o′ (larger v v′ h l) a a′ = tt
+one-accepted o o′ (same (powerUp x)) a a′ = a ∙ sym a′
+one-accepted o o′ (same (write b v)) a a′ = tt
+one-accepted o o′ (same (read b)) a a′ = tt
+one-accepted o o′ (same (signal x)) a a′ = tt
+
+all-accepted : (s s′ : State) {es es′ : List Event} → AllNeverLower es es′ → PowerUpsAccepted s es → PowerUpsAccepted s′ es′ → PowerUpsAlike s es s′ es′
+unfolding PowerUpsAccepted PowerUpsAlike
+all-accepted s s′ none a a′ = tt
+all-accepted s s′ (next w ws) a a′ = (one-accepted _ _ w (a .0) (a′ .0), all-accepted _ _ ws (a .1) (a′ .1))
 
 -- ---- Beginnings
 
@@ -95,13 +111,16 @@ unpowered-related m m′ =
       fit′ = λ e. absurd (false≢true e);
     }
 
+pub demand3-alike : Demand3-alike
+demand3-alike m m′ es es′ w n a l = agree (start m) (start m′) (lower-take n w) (unpowered-related m m′) refl a l
+
 pub demand3 : Demand3
-demand3 m m′ es es′ w n a a′ l = agree (start m) (start m′) (lower-take n w) (unpowered-related m m′) refl a a′ l
+demand3 m m′ es es′ w n a a′ l = demand3-alike m m′ es es′ w n (all-accepted _ _ (lower-take n w) a a′) l
 
 pub demand3-from-any : Demand3-from-any
 demand3-from-any s s′ x x′ es es′ u a a′ w n b b′ l =
     let t = power-up-together s s′ u a a′ in
-    agree _ _ (lower-take n w) (t .related) (up-request s x a ∙ sym (up-request s′ x′ a′)) b b′ l
+    agree _ _ (lower-take n w) (t .related) (up-request s x a ∙ sym (up-request s′ x′ a′)) (all-accepted _ _ (lower-take n w) b b′) l
 
 pub demand3-as-ordered : Demand3-as-ordered
 demand3-as-ordered m m′ es es′ w a a′ n l =

@@ -11,8 +11,8 @@ use Rattle.rules.specs.declared.Event.{Event}
 use Rattle.rules.specs.declared.Event.the-variants.{PowerUp as powerUp, Write as write, Read as read, Signal as signal}
 use Rattle.rules.specs.Record.{State}
 use Rattle.rules.specs.Step.{step}
-use Rattle.demand3.specs.Demand3.{NeverLower, same, deeper, larger, AllNeverLower, none, next, PowerUpAccepted, PowerUpsAccepted, NothingLost, NoQuarter, NoQuarters}
-use Rattle.demand3.specs.Examples.{settings, firstRun, secondRun, firstStart, secondStart, Demand3-met, emptying, Request-met, tooSmall, largeEnough, Loss-matters, Quarter-matters}
+use Rattle.demand3.specs.Demand3.{NeverLower, same, deeper, larger, AllNeverLower, none, next, PowerUpAccepted, PowerUpsAccepted, NothingLost, NoQuarter, NoQuarters, PowerUpsAlike}
+use Rattle.demand3.specs.Examples.{settings, firstRun, secondRun, firstStart, secondStart, Demand3-met, emptying, Request-met, refusing, Refused-met, again, Alike-matters, tooSmall, largeEnough, Loss-matters, Quarter-matters}
 use Rattle.rules.proofs.Choice.{and-both}
 use Rattle.rules.proofs.Open.{rules-open}
 
@@ -121,6 +121,26 @@ request-met =
       before = refl;
       set = refl;
       cleared = refl;
+    }
+
+pub refused-met : Refused-met
+unfolding noneLost PowerUpsAlike rules-open
+refused-met =
+    record {
+      lower = deeper (settings 1) 3 (omega arith) ▸ sames _;
+      alike = (refl, (tt, (refl, (tt, tt))));
+      lossless = lossless-all firstStart (refusing 1) refl;
+      refused = refl;
+      values = refl;
+    }
+
+pub alike-matters : Alike-matters
+unfolding noneLost rules-open
+alike-matters =
+    record {
+      lower = one ▸ one ▸ deeper (settings 1) 9 (omega arith) ▸ none;
+      lossless = lossless-all firstStart (again 1) refl;
+      differ = λ e. let z : _≡_ {A = ℕ} 0 1 = ap length e in omega arith;
     }
 
 pub loss-matters : Loss-matters

@@ -28,7 +28,7 @@ use Rattle.rules.specs.Refusals.{refusal}
 use Rattle.rules.specs.Step.{Outcome, refused, played, boardBefore, done, step}
 use Rattle.rules.specs.Laws.Refusals.{Ordinary}
 use Rattle.rules.specs.Own.{ownNumber}
-use Rattle.demand3.specs.Demand3.{NeverLower, same, deeper, larger, PowerUpAccepted, NoQuarter}
+use Rattle.demand3.specs.Demand3.{NeverLower, same, deeper, larger, NoQuarter, PowerUpAlike}
 use Rattle.rules.proofs.Own.{refusal-own}
 use Rattle.rules.proofs.Sizes.{_⊑_, full-mono}
 use Rattle.laws.proofs.Places.{onList}
@@ -142,6 +142,12 @@ unfolding refused
 refused-together n n′ s s′ e r =
     record { refusal = e; moved = refl; fate = refl; lossless = λ h. omega arith; related = r; request = λ q h. h }
 
+-- an event that both refuse by one number
+both-refused : (s s′ : State) (e e′ : Event) → Related s s′ → refusal s e ≡ refusal s′ e′ → eqb (refusal s e) 0 ≡ false
+    → Together s s′ (step s e) (step s′ e′)
+both-refused s s′ e e′ r q z =
+    rw (step-refused s e z, step-refused s′ e′ (subst (λ (n : ℕ). eqb n 0 ≡ false) q z)) (refused-together _ _ s s′ q r)
+
 fate-two : (f : Fate) → fateNumber f ≢ 2 → f ≢ lostToFull
 fate-two f h e = h (ap fateNumber e)
 
@@ -189,8 +195,7 @@ ordinary-together s s′ {e} {e′} w o o′ r k = go (soundCore (s .board .core
         let h′ : refusal s′ e′ ≡ 0 = sym q ∙ h in
         let g = f h in
         rw (step-done s e h, step-done s′ e′ h′) (done-together s s′ e e′ o o′ l r (g .0) (g .1) (rw (step-done s e h) at k))
-    same-number q f false z =
-        rw (step-refused s e z, step-refused s′ e′ (subst (λ (n : ℕ). eqb n 0 ≡ false) q z)) (refused-together _ _ s s′ q r)
+    same-number q f false z = both-refused s s′ e e′ r q z
 
     go : (t : Bool) → soundCore (s .board .core) ≡ t → Together s s′ (step s e) (step s′ e′)
     go true t =
@@ -240,17 +245,29 @@ pub power-up-together : (s s′ : State) {x x′ : Settings} → NeverLower (pow
 power-up-together s s′ {x} (same _) a a′ = up-together s s′ x x (one-to-rules (same (powerUp x))) a a′ (le-refl (x .fitted))
 power-up-together s s′ (deeper x d h) a a′ = up-together s s′ x _ (one-to-rules (deeper x d h)) a a′ h
 
+-- and so do two that are answered alike, where the states before them were related: a refused one changes neither
+up-alike : (s s′ : State) {x x′ : Settings} → NeverLower (powerUp x) (powerUp x′) → Related s s′
+    → (step s (powerUp x)) .answer .refusal ≡ (step s′ (powerUp x′)) .answer .refusal
+    → Together s s′ (step s (powerUp x)) (step s′ (powerUp x′))
+up-alike s s′ {x} {x′} w r q = go (eqb (refusal s (powerUp x)) 0) refl
+  where
+    go : (z : Bool) → eqb (refusal s (powerUp x)) 0 ≡ z → Together s s′ (step s (powerUp x)) (step s′ (powerUp x′))
+    go true z =
+        let h = refusal-answered s (powerUp x) ∙ eqb-true (refusal s (powerUp x)) 0 z in
+        power-up-together s s′ w h (sym q ∙ h)
+    go false z =
+        both-refused s s′ (powerUp x) (powerUp x′) r (sym (refusal-answered s (powerUp x)) ∙ q ∙ refusal-answered s′ (powerUp x′)) z
+
 -- ---- Any event
 
 pub step-together : (s s′ : State) {e e′ : Event} → NeverLower e e′ → Related s s′
-    → PowerUpAccepted e (step s e) → PowerUpAccepted e′ (step s′ e′) → (step s e) .answer .fate ≢ 2 → Together s s′ (step s e) (step s′ e′)
-step-together s s′ (deeper x d h) r a a′ n = power-up-together s s′ (deeper x d h) a a′
-step-together s s′ (larger v v′ h l) r a a′ n = ordinary-together s s′ (larger v v′ h l) tt tt r n
-step-together s s′ (same e) r a a′ n = each e a a′ n
+    → PowerUpAlike e (step s e) (step s′ e′) → (step s e) .answer .fate ≢ 2 → Together s s′ (step s e) (step s′ e′)
+step-together s s′ (deeper x d h) r a n = up-alike s s′ (deeper x d h) r a
+step-together s s′ (larger v v′ h l) r a n = ordinary-together s s′ (larger v v′ h l) tt tt r n
+step-together s s′ (same e) r a n = each e a n
   where
-    each : (e : Event) → PowerUpAccepted e (step s e) → PowerUpAccepted e (step s′ e)
-        → (step s e) .answer .fate ≢ 2 → Together s s′ (step s e) (step s′ e)
-    each (powerUp x) a a′ n = power-up-together s s′ (same (powerUp x)) a a′
-    each (write o v) a a′ n = ordinary-together s s′ (same (write o v)) tt tt r n
-    each (read o) a a′ n = ordinary-together s s′ (same (read o)) tt tt r n
-    each (signal x) a a′ n = ordinary-together s s′ (same (signal x)) tt tt r n
+    each : (e : Event) → PowerUpAlike e (step s e) (step s′ e) → (step s e) .answer .fate ≢ 2 → Together s s′ (step s e) (step s′ e)
+    each (powerUp x) a n = up-alike s s′ (same (powerUp x)) r a
+    each (write o v) a n = ordinary-together s s′ (same (write o v)) tt tt r n
+    each (read o) a n = ordinary-together s s′ (same (read o)) tt tt r n
+    each (signal x) a n = ordinary-together s s′ (same (signal x)) tt tt r n

@@ -132,3 +132,29 @@ Demand3-as-ordered =
     → NothingLost (start m′) (take n es′)
     × Alike (after (start m) (take n es)) (after (start m′) (take n es′))
     × (NoQuarters (start m) es → (after (start m) (take n es)) .board .request ≡ (after (start m′) (take n es′)) .board .request)
+
+-- ---- Beyond the order: power-ups that are refused
+
+-- a power-up gets the same number in both runs: both accept it, or both refuse it alike
+abbrev pub PowerUpAlike : Event → Outcome → Outcome → Type 0
+PowerUpAlike (powerUp x) o o′ = o .answer .refusal ≡ o′ .answer .refusal
+PowerUpAlike (write a v) o o′ = Unit {0}
+PowerUpAlike (read a) o o′ = Unit {0}
+PowerUpAlike (signal x) o o′ = Unit {0}
+
+unfoldable pub PowerUpsAlike : State → List Event → State → List Event → Type 0
+PowerUpsAlike s [] s′ es′ = Unit {0}
+PowerUpsAlike s (e ∷ es) s′ [] = Unit {0}
+PowerUpsAlike s (e ∷ es) s′ (e′ ∷ es′) =
+    PowerUpAlike e (step s e) (step s′ e′) × PowerUpsAlike ((step s e) .state) es ((step s′ e′) .state) es′
+
+-- The demand with that for its premise. "every power-up accepted in both" is the case in which the number is 0; a refused one changes
+-- neither run.
+abbrev pub Demand3-alike : Type 0
+Demand3-alike =
+    (m m′ : List ℕ) (es es′ : List Event)
+    → AllNeverLower es es′
+    → (n : ℕ)
+    → PowerUpsAlike (start m) (take n es) (start m′) (take n es′)
+    → NothingLost (start m) (take n es)
+    → Agree (start m) (take n es) (start m′) (take n es′)

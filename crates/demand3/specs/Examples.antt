@@ -1,5 +1,6 @@
--- Demand 3 at work: two pairs of runs that meet every premise, one of them with an interrupt selected, and pairs that show why a loss
--- ends its promise and why a quarter-full interrupt ends that of the request.
+-- Demand 3 at work: three pairs of runs that meet every premise, one of them with an interrupt selected, one with a power-up that both
+-- refuse, and pairs that show why a loss ends its promise, why a power-up that one run alone refuses does, and why a quarter-full
+-- interrupt ends that of the request.
 use Prim.Native.Nat.{ℕ, _+_}
 use mathlib.Core.Path.{_≡_}
 use mathlib.Core.Logic.{_≢_}
@@ -10,9 +11,10 @@ use Rattle.rules.specs.declared.Settings.{Settings}
 use Rattle.rules.specs.declared.Event.{Event}
 use Rattle.rules.specs.declared.Event.the-variants.{PowerUp as powerUp}
 use Rattle.rules.specs.Record.{State, activeSize, stored, start}
+use Rattle.rules.specs.Step.{step}
 use Rattle.rules.specs.Session.{after}
 use Rattle.rules.specs.Bench.{bcr, mask, bor, load, clk}
-use Rattle.demand3.specs.Demand3.{AllNeverLower, PowerUpsAccepted, NothingLost, NoQuarters}
+use Rattle.demand3.specs.Demand3.{AllNeverLower, PowerUpsAccepted, NothingLost, NoQuarters, PowerUpsAlike}
 
 abbrev pub settings : ℕ → Settings
 settings d = record { fitted = d; range = 0; filter = 0; kit = 2; firmware = 0 }
@@ -84,6 +86,26 @@ pub record Request-met : Type 0 where
   pub before : (after firstStart (take 5 (emptying 1))) .board .request ≡ false
   pub set : (after firstStart (take 6 (emptying 1))) .board .request ≡ true
   pub cleared : (after firstStart (take 7 (emptying 1))) .board .request ≡ false
+
+-- A power-up that both runs refuse, since a depth of 4,096 is more than either memory: both go on as they were.
+abbrev pub refusing : ℕ → List Event
+refusing d = fit d ∷ load 1 ∷ fit 9 ∷ load 2 ∷ []
+
+pub record Refused-met : Type 0 where
+  pub lower : AllNeverLower (refusing 1) (refusing 3)
+  pub alike : PowerUpsAlike firstStart (refusing 1) secondStart (refusing 3)
+  pub lossless : NothingLost firstStart (refusing 1)
+  pub refused : (step (after firstStart (take 2 (refusing 1))) (fit 9)) .answer .refusal ≡ 2
+  pub values : stored (after firstStart (refusing 1)) ≡ 1 ∷ 2 ∷ []
+
+-- Power-ups must be answered alike: here the second run's is too deep for its memory, and the value loaded before it stays.
+abbrev pub again : ℕ → List Event
+again d = fit 0 ∷ load 1 ∷ fit d ∷ []
+
+pub record Alike-matters : Type 0 where
+  pub lower : AllNeverLower (again 1) (again 9)
+  pub lossless : NothingLost firstStart (again 1)
+  pub differ : stored (after firstStart (again 1)) ≢ stored (after secondStart (again 9))
 
 -- The premise on losses is needed: here the first run loses its ninth value, and the stored values differ from then on.
 abbrev pub tooSmall : List Event

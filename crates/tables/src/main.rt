@@ -1,11 +1,12 @@
-// Tables of volts that are printed and compared: what each session prints is held to the file `stdout`. The sessions stand in the file
-// `stdin`, each a line that begins with `=` and names it, and then its bytes as hex text, so that one more is no code more. Nothing is
-// promised of what is written; every function is proved safe.
+// Tables of volts, and smallest sizes, that are printed and compared: what each session prints is held to the file `stdout`. The sessions
+// stand in the file `stdin`, each a line that begins with `=` and names it, or with `=?` where its smallest size is asked, and then its
+// bytes as hex text, so that one more is no code more. Nothing is promised of what is written; every function is proved safe.
 ghost use Prim.Native.Nat.{_≤_};
 ghost use lib.ListN.{length};
 use console::within;
 use hextext::Decoded;
 use hextext::decode;
+use smallest::smallest_size;
 use volts::volts;
 
 mod decimals;
@@ -32,7 +33,30 @@ fn play(session: &[u8]) {
     let t = volts(session, &mut memory);
     let channels = t.channels;
     print::table(t.refusal, channels);
-    print::memory(memory);
+    print::memory(&memory);
+}
+
+// On a board with a depth of 32 values at most, and the same values in the memory.
+fn search(session: &[u8]) {
+    let mut memory = [7000000u32; 32];
+    let a = smallest_size(session, &mut memory);
+    print::size(a.refusal, a.code);
+    print::memory(&memory);
+}
+
+// Whether the smallest size is asked.
+fn asks_size(text: &[u8]) -> bool {
+    if text.len() < 2 {
+        return false;
+    }
+    text[1] == b'?'
+}
+
+fn tell(size: bool, session: &[u8]) {
+    if size {
+        return search(session);
+    }
+    play(session)
 }
 
 // The name of a session, and what it says.
@@ -44,7 +68,7 @@ fn named(text: &[u8]) {
     match decode(&text[end..], &mut session) {
         Decoded::Bytes(n) => {
             let k = within(n, &session);
-            play(&session[..k]);
+            tell(asks_size(text), &session[..k]);
         }
         Decoded::Full => print::line(b"  is too long"),
         Decoded::Fault(_) => print::line(b"  is not hex text"),

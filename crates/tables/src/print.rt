@@ -40,12 +40,24 @@ pub(crate) fn table(refusal: u32, channels: [Extremes; 20]) {
     }
 }
 
-pub(crate) fn memory(entries: [u32; 8]) {
+pub(crate) fn size(refusal: u32, code: u32) {
+    io::write_all(1, b"  refusal ");
+    io::print_decimal(1, refusal as u64);
+    io::write_all(1, b" code ");
+    io::print_decimal(1, code as u64);
+    io::write_all(1, b"\n");
+}
+
+fn entry(n: u32) {
+    io::write_all(1, b" ");
+    io::print_decimal(1, n as u64);
+}
+
+pub(crate) fn memory(entries: &[u32]) {
     io::write_all(1, b"  memory");
     let mut i: usize = 0;
-    while i < 8 {
-        io::write_all(1, b" ");
-        io::print_decimal(1, entries[i] as u64);
+    while i < entries.len() {
+        entry(entries[i]);
         i += 1;
     }
     io::write_all(1, b"\n");

@@ -43,14 +43,17 @@ slice-aggregate-within c = search needs
 within-requires : tie.Need-within-requires
 within-requires c κs = search needs
 
+asks-size-requires : tie.Need-asks-size-requires
+asks-size-requires c κs = search needs
+
 array-share-prefix-session : tie.Need-array-share-prefix-session
 array-share-prefix-session c = search needs
 
-slice-aggregate-play : tie.Need-slice-aggregate-play
-slice-aggregate-play c = search needs
+slice-aggregate-tell : tie.Need-slice-aggregate-tell
+slice-aggregate-tell c = search needs
 
-play-requires : tie.Need-play-requires
-play-requires c κs = search needs
+tell-requires : tie.Need-tell-requires
+tell-requires c κs = search needs
 
 enum-told : tie.Need-enum-told
 enum-told c = search needs
@@ -96,9 +99,10 @@ named-spec =
     enum-known-n
     slice-aggregate-within
     within-requires
+    asks-size-requires
     array-share-prefix-session
-    slice-aggregate-play
-    play-requires
+    slice-aggregate-tell
+    tell-requires
     enum-told
     slice-aggregate-line
     line-requires

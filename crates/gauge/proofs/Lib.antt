@@ -1,0 +1,2 @@
+-- What the function promises determines its outcome.
+pub mod Unique

@@ -1,0 +1,15 @@
+// The smallest size that plays a session, for hosts in Rust and C. A slice is a pointer and then a length on their side, and `code` a
+// pointer (hosts/).
+ghost use Rattle.gauge.specs.Promises.{SizeCalled};
+use smallest::smallest_size;
+
+// The smallest size of a session file over the sample memory. Answers the refusal number, 0 where a code is named; `code` is that code,
+// and 0 where it was refused.
+#[no_mangle]
+pub extern "C" fn nergutsai_smallest_size(file: &[u8], memory: &mut [u32], code: &mut u32) -> u32
+    ensures { λ r. ⌜ SizeCalled (now (file .entry)) (now (memory .entry)) r (now (memory .exit)) (now (code .exit)) ⌝ }
+{
+    let a = smallest_size(file, memory);
+    *code = a.code;
+    a.refusal
+}

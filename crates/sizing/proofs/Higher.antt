@@ -1,0 +1,114 @@
+-- Two replays of a session, the second with a code that is no lower, over two memories of one length: demand 3 of them.
+use Prim.Native.Nat.{ℕ, zero, suc, _≤_}
+use mathlib.Core.Path.{_≡_, refl, sym, ap, _∙_, subst}
+use mathlib.Core.Logic.{_≢_}
+use mathlib.Core.Bool.{Bool, true, false, not, _&&_, cond, false≢true}
+use mathlib.Core.List.{List, [], _∷_}
+use native.Mathlib.Nat.{le-refl}
+use native.Mathlib.Omega.{arith}
+use borrow.Author.Tests.{eqb-false, not-true, ne-eqb}
+use lib.Dec.{ltb, eqb}
+use lib.ListN.{length, take}
+use lib.Seq.{take-all}
+use Rattle.laws.specs.Types.{Settings, Event, powerUp, write, read, signal}
+use Rattle.rules.specs.Record.{State, depthOf, start}
+use Rattle.rules.specs.Refusals.{settingRefusal}
+use Rattle.rules.specs.Step.{step}
+use Rattle.rules.specs.Session.{after}
+use Rattle.rules.proofs.Choice.{and-both, both-and}
+use Rattle.rules.proofs.Steps.{refusal-answered}
+use Rattle.rules.proofs.Own.{power-up-own}
+use Rattle.laws.proofs.Memory.{memory-kept}
+use Rattle.demand3.specs.Demand3.{NothingLost, Agree, PowerUpAlike, PowerUpsAlike}
+use Rattle.demand3.proofs.Demand3.{demand3-alike}
+use Rattle.sizing.specs.Coded.{sized, sizedAll}
+use Rattle.sizing.specs.Smallest.{losesNothing, replays, plays}
+use Rattle.sizing.proofs.Coded.{sized-length, all-never-lower}
+
+-- ---- Power-ups are answered alike
+
+-- by the settings and the memory's length alone
+up-answered : (s s′ : State) (x : Settings) → length (s .memory) ≡ length (s′ .memory)
+    → (step s (powerUp x)) .answer .refusal ≡ (step s′ (powerUp x)) .answer .refusal
+up-answered s s′ x q =
+    refusal-answered s (powerUp x)
+    ∙ power-up-own s x
+    ∙ ap (λ (n : ℕ). cond (eqb (settingRefusal x) 0) (cond (ltb n (depthOf (x .fitted))) 2 0) (settingRefusal x)) q
+    ∙ sym (power-up-own s′ x)
+    ∙ sym (refusal-answered s′ (powerUp x))
+
+one-alike : (j k : ℕ) (s s′ : State) (e : Event) → length (s .memory) ≡ length (s′ .memory)
+    → PowerUpAlike (sized j e) (step s (sized j e)) (step s′ (sized k e))
+unfolding sized
+one-alike j k s s′ (powerUp x) q = up-answered s s′ x q
+one-alike j k s s′ (write o v) q = tt
+one-alike j k s s′ (read o) q = tt
+one-alike j k s s′ (signal x) q = tt
+
+all-alike : (j k n : ℕ) (es : List Event) (s s′ : State) → length (s .memory) ≡ length (s′ .memory)
+    → PowerUpsAlike s (take n (sizedAll j es)) s′ (take n (sizedAll k es))
+unfolding sizedAll PowerUpsAlike
+all-alike j k zero es s s′ q = tt
+all-alike j k (suc n) [] s s′ q = tt
+all-alike j k (suc n) (e ∷ es) s s′ q = (
+  one-alike j k s s′ e q,
+  all-alike j k n es _ _ ((memory-kept s (sized j e)) .long ∙ q ∙ sym ((memory-kept s′ (sized k e)) .long)),
+)
+
+-- ---- Demand 3 of the two replays
+
+pub lost-before : (n : ℕ) (s : State) (es : List Event) → NothingLost s es → NothingLost s (take n es)
+unfolding NothingLost
+lost-before zero s es h = tt
+lost-before (suc n) s [] h = tt
+lost-before (suc n) s (e ∷ es) h = (h .0, lost-before n _ es (h .1))
+
+module _ (es : List Event) (m m′ : List ℕ) (same : length m ≡ length m′) (j k : ℕ) (lower : j ≤ k) (within : k ≤ 15) where
+  pub replays-agree : NothingLost (start m) (sizedAll j es) → (n : ℕ)
+      → Agree (start m) (take n (sizedAll j es)) (start m′) (take n (sizedAll k es))
+  replays-agree h n =
+      demand3-alike m m′ _ _ (all-never-lower j k lower within es) n (all-alike j k n es (start m) (start m′) same)
+      (lost-before n (start m) (sizedAll j es) h)
+
+  pub higher-plays : NothingLost (start m) (sizedAll j es) → NothingLost (start m′) (sizedAll k es)
+  higher-plays h =
+      subst (NothingLost (start m′)) (take-all (length es) (sizedAll k es) (subst (λ (n : ℕ). n ≤ length es) (sym (sized-length k es)) (le-refl (length es))))
+      ((replays-agree h (length es)) .lossless)
+
+-- ---- The test
+
+lossless-test : (s : State) (es : List Event) → losesNothing s es ≡ true → NothingLost s es
+unfolding losesNothing NothingLost
+lossless-test s [] h = tt
+lossless-test s (e ∷ es) h =
+    let t = and-both (not (eqb ((step s e) .answer .fate) 2)) (losesNothing ((step s e) .state) es) h in
+    (eqb-false _ 2 (not-true _ (t .0)), lossless-test ((step s e) .state) es (t .1))
+
+test-lossless : (s : State) (es : List Event) → NothingLost s es → losesNothing s es ≡ true
+unfolding losesNothing NothingLost
+test-lossless s [] h = refl
+test-lossless s (e ∷ es) h =
+    both-and _ _ (ap not (ne-eqb ((step s e) .answer .fate) 2 (h .0))) (test-lossless ((step s e) .state) es (h .1))
+
+-- ---- The turn of a code, over what the ones before left
+
+after-long : (s : State) (es : List Event) → length ((after s es) .memory) ≡ length (s .memory)
+unfolding after
+after-long s [] = refl
+after-long s (e ∷ es) = after-long ((step s e) .state) es ∙ (memory-kept s e) .long
+
+replays-long : (es : List Event) (m : List ℕ) (k : ℕ) → length (replays es m k) ≡ length m
+unfolding replays
+replays-long es m zero = refl
+replays-long es m (suc k) = after-long (start (replays es m k)) (sizedAll k es) ∙ replays-long es m k
+
+module _ (es : List Event) (m m′ : List ℕ) (k : ℕ) (same : length m′ ≡ length m) (within : k ≤ 15) where
+  -- as it plays there, it plays over any memory of that length
+  pub turn-plays : plays es m k ≡ true → NothingLost (start m′) (sizedAll k es)
+  unfolding plays
+  turn-plays h = higher-plays es (replays es m k) m′ (replays-long es m k ∙ sym same) k k (le-refl k) within (lossless-test _ _ h)
+
+  pub turn-loses : plays es m k ≡ false → ¬ NothingLost (start m′) (sizedAll k es)
+  unfolding plays
+  turn-loses h l =
+      false≢true (sym h ∙ test-lossless _ _ (higher-plays es m′ (replays es m k) (same ∙ sym (replays-long es m k)) k k (le-refl k) within l))

@@ -1,0 +1,6 @@
+pub mod Coded
+pub mod Smallest
+pub mod Theorems
+pub mod Laws
+pub mod Examples
+pub mod Instances

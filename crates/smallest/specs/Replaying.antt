@@ -1,0 +1,25 @@
+-- What one replay, and the replays one after another, make of the memory, and what they tell.
+use Prim.Native.Nat.{ℕ}
+use mathlib.Core.Path.{_≡_}
+use mathlib.Core.Bool.{Bool, cond}
+use mathlib.Core.List.{List}
+use lib.Dec.{ltb}
+use Rattle.rules.specs.Record.{start}
+use Rattle.rules.specs.Session.{after}
+use Rattle.files.specs.File.{session}
+use Rattle.sizing.specs.Coded.{sizedAll}
+use Rattle.sizing.specs.Smallest.{losesNothing, replays, codes, lowest, replayed}
+use Rattle.smallest.specs.declared.Smallest.{Smallest}
+
+-- the session file s with the code k, from the unpowered record over the memory m
+pub record Replayed (s m : List ℕ) (k : ℕ) (r : Bool) (m′ : List ℕ) : Type 0 where
+  pub whole : r ≡ losesNothing (start m) (sizedAll k ((session s) .events))
+  pub memory : m′ ≡ (after (start m) (sizedAll k ((session s) .events))) .memory
+
+pub record Searched (s m : List ℕ) (r : ℕ) (m′ : List ℕ) : Type 0 where
+  pub code : r ≡ lowest ((session s) .events) m
+  pub memory : m′ ≡ replays ((session s) .events) m (replayed (lowest ((session s) .events) m))
+
+-- what is answered where k was found, or 16
+abbrev pub answerOf : ℕ → Smallest
+answerOf k = record { refusal = cond (ltb k codes) 0 19; code = cond (ltb k codes) k 0 }
