@@ -1,7 +1,7 @@
 //! The refusal numbers, those of events each "given exactly when" the table
 //! says, and the order of these. 1 and 14 to 17, the power-up settings, are as
-//! request 2026-02 has them; 18 is that of request 2026-03; from 20 on they are
-//! those of request 2026-01.
+//! request 2026-02 has them; 18 is that of request 2026-03 and 19 that of
+//! request 2026-05; from 20 on they are those of request 2026-01.
 
 use crate::event::Event;
 use crate::record::{depth_of, Record, LARGEST_FIRMWARE, LARGEST_FITTED, LARGEST_OPTION};
@@ -44,6 +44,8 @@ pub(crate) const KIT: u32 = 16;
 pub(crate) const FIRMWARE: u32 = 17;
 /// "18 when the session has no accepted power-up"
 pub(crate) const NO_POWER_UP: u32 = 18;
+/// "19 exactly when none of the sixteen codes plays without loss"
+pub(crate) const NO_SIZE: u32 = 19;
 /// "20 a place past the output's end"
 pub(crate) const PLACE: u32 = 20;
 /// "21 when the whole session doesn't fit"

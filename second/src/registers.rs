@@ -6,7 +6,7 @@ use crate::{clock, queue};
 /// Load fates: "(0 none, 1 stored, 2 lost to full, 3 lost to closed)".
 const NO_LOAD: u32 = 0;
 const STORED: u32 = 1;
-const LOST_TO_FULL: u32 = 2;
+pub(crate) const LOST_TO_FULL: u32 = 2;
 const LOST_TO_CLOSED: u32 = 3;
 
 /// Bit Dn of a written value.
