@@ -12,8 +12,8 @@ help_in() { # FILE
     cat <<'TEXT'
 
 The script needs rt, cargo and a C compiler: with rt it proves and builds libbridge.a,
-libferry.a, libquay.a and libtide.a where they are not current, the first time in some
-minutes. Where one of the three tools is missing it ends with status 2.
+libferry.a, libquay.a, libtide.a and libgauge.a where they are not current, the first
+time in some minutes. Where one of the three tools is missing it ends with status 2.
 The archives are for Linux on x86-64. On another processor set CARGO_BUILD_TARGET to
 x86_64-unknown-linux-gnu, CARGO_TARGET_X86_64_UNKNOWN_LINUX_GNU_LINKER to a cross
 compiler and CARGO_TARGET_X86_64_UNKNOWN_LINUX_GNU_RUNNER to an emulator.

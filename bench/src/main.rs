@@ -1,7 +1,9 @@
-//! Lists or writes five sessions, or makes their tables of volts, many times in one process, through the proved code and through the second model, written in Rust,
-//! and prints how many events a second each takes and the ratio of their times.
+//! Lists or writes five sessions, makes their tables of volts or finds the smallest sizes that play them, many times in
+//! one process, through the proved code and through the second model, written in Rust, and prints how many events a
+//! second each takes and the ratio of their times.
 
 mod sessions;
+mod sizes;
 mod volts;
 mod writing;
 
@@ -10,17 +12,22 @@ use std::process::exit;
 use std::time::{Duration, Instant};
 
 const HELP: &str = "\
-bench/run - the proved listing, writing or volts of whole sessions against the same in Rust
+bench/run - the proved listing, writing, volts or sizes of whole sessions against the same in Rust
 
-usage: bench/run [--rounds N] [--only NAME] [--writing | --volts] [--ours] [--help]
+usage: bench/run [--rounds N] [--only NAME] [--writing | --volts | --sizes] [--ours] [--help]
 
   --rounds N     how often each session is replayed on each side, a number from 1
                  (default 2000); in turns, and the best is taken
   --only NAME    only this session: streaming, sparse, circular, simultaneous or random
   --writing      the sessions are written from their events, and not listed
   --volts        the table of lowest, highest and last volts is made of them, and not a
-                 listing; below each row stands its time over that of the listing. Of
-                 --writing and --volts the later counts
+                 listing; below each row stands its time over that of the listing
+  --sizes        the smallest size that plays each of them is found: it is replayed with
+                 code 0, 1 and so on up to the one named, with all sixteen where none plays
+                 (refusal 19). An event counts once, however many replays there are; below
+                 each row stand the code, the replays, the proved side's time an event, and
+                 its time over that of one listing. Of --writing, --volts and --sizes the
+                 last counts
   --ours         only the proved side and no table, for a profiler
   --help         this text
 
@@ -45,6 +52,7 @@ enum What {
     Listing,
     Writing,
     Volts,
+    Sizes,
 }
 
 fn main() {
@@ -69,6 +77,7 @@ fn main() {
                 What::Listing => listing(&session.file, options.rounds),
                 What::Writing => writing::ours(session, options.rounds),
                 What::Volts => volts::ours(session, options.rounds),
+                What::Sizes => sizes::ours(session, options.rounds),
             }
         }
         return;
@@ -79,6 +88,7 @@ fn main() {
             What::Listing => measure(session.name, &session.file, options.rounds),
             What::Writing => writing::measure(session, options.rounds),
             What::Volts => volts::measure(session, options.rounds),
+            What::Sizes => sizes::measure(session, options.rounds),
         }
     }
 }
@@ -104,6 +114,7 @@ fn options() -> Result<Options, String> {
             "--only" => options.only = Some(word()?),
             "--writing" => options.what = What::Writing,
             "--volts" => options.what = What::Volts,
+            "--sizes" => options.what = What::Sizes,
             "--ours" => options.ours = true,
             "--help" | "-h" => {
                 print!("{HELP}");

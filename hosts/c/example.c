@@ -46,6 +46,8 @@ static const char *words(uint32_t refusal)
     case NERGUTSAI_CUT: return "the file ends inside a record: hand in the whole of it";
     case NERGUTSAI_WRONG_LENGTH: return "a record's length is wrong for its kind: 7, 6 and 2 for kinds 1 to 3, 1 for 4 to 9";
     case NERGUTSAI_NO_POWER_UP: return "no power-up is accepted: the listing says why each was refused";
+    case NERGUTSAI_NO_SIZE_PLAYS:
+        return "values are lost to a full buffer at every size: order a deeper one, or load less before clocks take values away";
     case NERGUTSAI_NO_ROOM: return "the session does not fit from the place on: lend a longer output";
     default: return "done";
     }
@@ -109,6 +111,17 @@ int main(void)
             printf("channel %d: lowest %.16f, highest %.16f, last %.16f\n", channel, three[NERGUTSAI_LOWEST],
                 three[NERGUTSAI_HIGHEST], three[NERGUTSAI_LAST]);
         }
+    }
+
+    /* And the smallest size that plays it; cut, it has none. */
+    for (size_t cut = 0; cut < 2; cut++) {
+        uint32_t code = 0;
+        const char *what = cut ? "smallest size of the cut file" : "smallest size";
+        refusal = nergutsai_smallest_size(file, end - cut, memory, 8, &code);
+        if (refusal == NERGUTSAI_SIZE_NAMED)
+            printf("%-36s refusal %" PRIu32 "  code %" PRIu32 "\n", what, refusal, code);
+        else
+            printf("%-36s refusal %" PRIu32 "  %s\n", what, refusal, words(refusal));
     }
     return 0;
 }

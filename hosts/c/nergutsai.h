@@ -1,8 +1,9 @@
 /* The proved board model for hosts in C: one event on a board record, its sample memory and an event, all as numbers;
- * the rate question of a board record; the listing of a whole session file; events written as a session file; and the lowest,
- * highest and last volts of a session file's channels.
+ * the rate question of a board record; the listing of a whole session file; events written as a session file; the lowest,
+ * highest and last volts of a session file's channels; and the smallest size of the buffer that plays a session file.
  * Link with libbridge.a (`rt staticlib bridge`) for the first two, libferry.a (`rt staticlib ferry`) for the listing, libquay.a
- * (`rt staticlib quay`) for the writing and libtide.a (`rt staticlib tide`) for the volts; all are for Linux on x86-64. */
+ * (`rt staticlib quay`) for the writing, libtide.a (`rt staticlib tide`) for the volts and libgauge.a (`rt staticlib gauge`) for
+ * the smallest size; all are for Linux on x86-64. */
 #ifndef NERGUTSAI_H
 #define NERGUTSAI_H
 
@@ -163,6 +164,29 @@ uint32_t nergutsai_volts(
     const uint8_t *file, size_t file_length,
     uint32_t *memory, size_t memory_length,
     float volts[NERGUTSAI_VOLTS]);
+
+/* What nergutsai_smallest_size returns: that a size code is named, or why not. 10 to 13 are named above. */
+enum {
+    NERGUTSAI_SIZE_NAMED = 0,
+    NERGUTSAI_NO_SIZE_PLAYS = 19 /* values are lost to a full buffer at all sixteen codes: order a deeper buffer (a higher fitted
+                                  * code), or load less before clocks take values away */
+};
+
+/* The lowest size code, 0 to 15, at which a session file loses nothing to a full buffer, on a board with this sample memory. The
+ * session is replayed with the code in D3..0 of every write to 0Ch, and all else kept: the active buffer holds 8 * 2^c values, for
+ * the lesser c of this code and the fitted one. The code 15 that power-up and initialise set is no write: it stays until the next
+ * accepted write to 0Ch. What is lost to a closed buffer does not count, nor does a refused power-up. Returns
+ *   NERGUTSAI_SIZE_NAMED  *code is that code; 0 where no power-up is accepted, since nothing is lost then. Every lower code loses
+ *      a value, and every higher one plays too, with the same levels, stored values, burst and loading states after each event.
+ *   another of the numbers above  it was refused: *code is 0. A bad file is told first, with the memory as it was.
+ * Of a good file the memory is as the replays left it: those with code 0, 1 and so on up to the one named, up to 15 where none
+ * plays, each over what the one before left. So up to sixteen replays are run. A file may have any length.
+ * The file is only read. The three pointers must be aligned and not NULL, `file` and `memory` for as many bytes or numbers as their
+ * lengths say, and no two may overlap. */
+uint32_t nergutsai_smallest_size(
+    const uint8_t *file, size_t file_length,
+    uint32_t *memory, size_t memory_length,
+    uint32_t *code);
 
 #ifdef __cplusplus
 }

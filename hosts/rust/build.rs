@@ -1,4 +1,5 @@
-//! Links libbridge.a, libferry.a, libquay.a and libtide.a from $NERGUTSAI_LIB, or from where `rt staticlib` writes them.
+//! Links libbridge.a, libferry.a, libquay.a, libtide.a and libgauge.a from $NERGUTSAI_LIB, or from where `rt staticlib`
+//! writes them.
 
 use std::env;
 use std::path::PathBuf;
@@ -9,7 +10,7 @@ fn main() {
         Some(folder) => PathBuf::from(folder),
         None => PathBuf::from(env!("CARGO_MANIFEST_DIR")).join("../../target/staticlib"),
     };
-    for name in ["bridge", "ferry", "quay", "tide"] {
+    for name in ["bridge", "ferry", "quay", "tide", "gauge"] {
         let archive = folder.join(format!("lib{name}.a"));
         if !archive.is_file() {
             panic!(

@@ -83,5 +83,16 @@ fn main() -> Result<(), Refusal> {
             }
         }
     }
+
+    // And the smallest size that plays it; cut, it has none.
+    for (what, file) in [
+        ("smallest size", &file[..end]),
+        ("smallest size of the cut file", &file[..end - 1]),
+    ] {
+        match nergutsai::smallest_size(file, &mut memory) {
+            Err(refusal) => println!("{what:<36} refusal {}  {refusal}", refusal.number()),
+            Ok(code) => println!("{what:<36} refusal 0  code {code}"),
+        }
+    }
     Ok(())
 }

@@ -1,7 +1,7 @@
 //! The proved model of the PC104P-16AO20 for hosts in Rust: a safe wrapper of `nergutsai_event`,
-//! `nergutsai_rate`, `nergutsai_list`, `nergutsai_write` and `nergutsai_volts`.
+//! `nergutsai_rate`, `nergutsai_list`, `nergutsai_write`, `nergutsai_volts` and `nergutsai_smallest_size`.
 //!
-//! The archives libbridge.a, libferry.a, libquay.a and libtide.a are for Linux on x86-64.
+//! The archives libbridge.a, libferry.a, libquay.a, libtide.a and libgauge.a are for Linux on x86-64.
 
 mod refusal;
 
@@ -165,6 +165,14 @@ extern "C" {
         memory: *mut u32,
         memory_length: usize,
         volts: *mut f32,
+    ) -> u32;
+
+    fn nergutsai_smallest_size(
+        file: *const u8,
+        file_length: usize,
+        memory: *mut u32,
+        memory_length: usize,
+        code: *mut u32,
     ) -> u32;
 }
 
@@ -333,5 +341,39 @@ pub fn volts(file: &[u8], memory: &mut [u32]) -> Result<[Extremes; 20], Refusal>
             last: numbers[3 * channel + 2],
         })),
         number => Err(Refusal::of(number).expect("the table has no other number")),
+    }
+}
+
+/// The search itself, on numbers: answers 0, or the number of the refusal (hosts/c/nergutsai.h), and sets `code`; to 0
+/// where it is refused. Slices of any length may be handed in.
+#[must_use]
+pub fn smallest_size_call(file: &[u8], memory: &mut [u32], code: &mut u32) -> u32 {
+    // The borrows make the two slices and `code` valid and apart from each other, which is all that the function asks.
+    unsafe {
+        nergutsai_smallest_size(
+            file.as_ptr(),
+            file.len(),
+            memory.as_mut_ptr(),
+            memory.len(),
+            code,
+        )
+    }
+}
+
+/// The lowest size code, 0 to 15, at which a session file loses nothing to a full buffer, on a board with this sample
+/// memory. The session is replayed with the code in D3..0 of every write to 0Ch, and all else kept: the active buffer
+/// holds 8·2^c values, for the lesser c of this code and the fitted one. The code 15 that power-up and initialise set is
+/// no write: it stays until the next accepted write to 0Ch. What is lost to a closed buffer does not count, nor does a
+/// refused power-up; where none is accepted the code is 0.
+///
+/// Every lower code loses a value, and every higher one plays too, with the same levels, stored values, burst and
+/// loading states after each event. The memory is as the replays left it: those with code 0, 1 and so on up to the one
+/// named, up to 15 where none plays, each over what the one before left; of a bad file it is as it was. So up to sixteen
+/// replays are run. A file may have any length.
+pub fn smallest_size(file: &[u8], memory: &mut [u32]) -> Result<u32, Refusal> {
+    let mut code = 0;
+    match smallest_size_call(file, memory, &mut code) {
+        0 => Ok(code),
+        number => Err(Refusal::of(number).expect("the search has no other number")),
     }
 }

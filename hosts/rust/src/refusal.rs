@@ -1,14 +1,14 @@
-//! Why an event was refused, a session not written, or a session file without volts.
+//! Why an event was refused, a session not written, or a session file without volts or a size that plays it.
 
 use std::error::Error;
 use std::fmt;
 
-/// Why an event was refused, why `write` wrote nothing, or why `volts` has no table.
+/// Why an event was refused, why `write` wrote nothing, why `volts` has no table, or why `smallest_size` names no code.
 ///
 /// A power-up names its first bad setting, in the order of this list. Where several things are wrong with another event,
 /// the lowest number is told, but 3 before 2. Of a session, rows that are not whole events are told first; then the first
 /// bad event decides, its kind before its fields; then the place; then the room. Of a session file, what is wrong with
-/// the file is told before a missing power-up.
+/// the file is told before a missing power-up, or that no size plays it.
 #[derive(Clone, Copy, Debug, PartialEq, Eq)]
 pub enum Refusal {
     /// Power-up: the fitted code is not 0 to 15.
@@ -51,10 +51,12 @@ pub enum Refusal {
     WrongLength,
     /// No power-up of the session is accepted.
     NoPowerUp,
+    /// Values are lost to a full buffer at all sixteen size codes.
+    NoSizePlays,
 }
 
 impl Refusal {
-    const ALL: [Refusal; 20] = [
+    const ALL: [Refusal; 21] = [
         Refusal::BadFitted,
         Refusal::BadRange,
         Refusal::BadFilter,
@@ -75,9 +77,10 @@ impl Refusal {
         Refusal::Cut,
         Refusal::WrongLength,
         Refusal::NoPowerUp,
+        Refusal::NoSizePlays,
     ];
 
-    /// The refusal number, as an answer has it, or `write_call` or `volts_call` answers it.
+    /// The refusal number, as an answer has it, or `write_call`, `volts_call` or `smallest_size_call` answers it.
     #[must_use]
     pub fn number(self) -> u32 {
         match self {
@@ -101,6 +104,7 @@ impl Refusal {
             Refusal::Cut => 11,
             Refusal::WrongLength => 12,
             Refusal::NoPowerUp => 18,
+            Refusal::NoSizePlays => 19,
         }
     }
 
@@ -153,6 +157,9 @@ impl fmt::Display for Refusal {
             }
             Refusal::NoPowerUp => {
                 "no power-up is accepted: the listing says why each was refused"
+            }
+            Refusal::NoSizePlays => {
+                "values are lost to a full buffer at every size: order a deeper one, or load less before clocks take values away"
             }
         })
     }
