@@ -22,7 +22,7 @@ use Rattle.laws.proofs.Memory.{memory-kept}
 use Rattle.demand3.specs.Demand3.{NothingLost, Agree, PowerUpAlike, PowerUpsAlike}
 use Rattle.demand3.proofs.Demand3.{demand3-alike}
 use Rattle.sizing.specs.Coded.{sized, sizedAll}
-use Rattle.sizing.specs.Smallest.{losesNothing, replays, plays}
+use Rattle.sizing.specs.Smallest.{losesNothing, replays, playsInTurn}
 use Rattle.sizing.proofs.Coded.{sized-length, all-never-lower}
 
 -- ---- Power-ups are answered alike
@@ -104,11 +104,11 @@ replays-long es m (suc k) = after-long (start (replays es m k)) (sizedAll k es) 
 
 module _ (es : List Event) (m m′ : List ℕ) (k : ℕ) (same : length m′ ≡ length m) (within : k ≤ 15) where
   -- as it plays there, it plays over any memory of that length
-  pub turn-plays : plays es m k ≡ true → NothingLost (start m′) (sizedAll k es)
-  unfolding plays
+  pub turn-plays : playsInTurn es m k ≡ true → NothingLost (start m′) (sizedAll k es)
+  unfolding playsInTurn
   turn-plays h = higher-plays es (replays es m k) m′ (replays-long es m k ∙ sym same) k k (le-refl k) within (lossless-test _ _ h)
 
-  pub turn-loses : plays es m k ≡ false → ¬ NothingLost (start m′) (sizedAll k es)
-  unfolding plays
+  pub turn-loses : playsInTurn es m k ≡ false → ¬ NothingLost (start m′) (sizedAll k es)
+  unfolding playsInTurn
   turn-loses h l =
       false≢true (sym h ∙ test-lossless _ _ (higher-plays es m′ (replays es m k) (same ∙ sym (replays-long es m k)) k k (le-refl k) within l))

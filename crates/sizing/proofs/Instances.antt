@@ -17,16 +17,16 @@ use Rattle.files.specs.File.{Session, session, verdict}
 use Rattle.files.proofs.Written.{file-read}
 use Rattle.demand3.specs.Demand3.{Alike}
 use Rattle.sizing.specs.Coded.{sized, sizedAll}
-use Rattle.sizing.specs.Smallest.{losesNothing, replays, plays, lowestFrom, codes, lowest, sizeRefusal, sizeCode}
-use Rattle.sizing.specs.Theorems.{at, Plays}
-use Rattle.sizing.specs.Examples.{fit, from, loads, lent}
+use Rattle.sizing.specs.Smallest.{losesNothing, replays, playsInTurn, lowestFrom, codes, lowest, sizeRefusal, sizeCode}
+use Rattle.sizing.specs.Theorems.{eventsWith, Plays}
+use Rattle.sizing.specs.Examples.{fit, numbered, loads, lent}
 use Rattle.sizing.specs.Instances.{seventeen, nine, other, Sizes-met}
 use Rattle.sizing.proofs.Theorems.{named-plays, lower-lose, none-plays, higher-play}
 
 -- ---- The files are read
 
-loads-fit : (v n : ℕ) → v + n < 1000 → AllFit (from v n load)
-unfolding from
+loads-fit : (v n : ℕ) → v + n < 1000 → AllFit (numbered v n load)
+unfolding numbered
 loads-fit v zero h = none
 loads-fit v (suc n) h = next {e = load v} (lit< tt, omega (arith, h)) (loads-fit (v + 1) n (omega (arith, h)))
 
@@ -54,11 +54,11 @@ seventeen-read : session seventeen ≡ record { events = script 2 17; end = File
 seventeen-read = script-read 2 17 (omega arith) (omega arith)
 
 seventeen-lowest : lowest (script 2 17) lent ≡ 2
-unfolding from sized sizedAll losesNothing replays plays lowestFrom lowest rules-open
+unfolding numbered sized sizedAll losesNothing replays playsInTurn lowestFrom lowest rules-open
 seventeen-lowest = refl
 
 nine-lowest : lowest (script 0 9) lent ≡ 16
-unfolding from sized sizedAll losesNothing replays plays lowestFrom lowest rules-open
+unfolding numbered sized sizedAll losesNothing replays playsInTurn lowestFrom lowest rules-open
 nine-lowest = refl
 
 refused-not : sizeRefusal seventeen lent ≡ 0
@@ -71,7 +71,7 @@ refused-nine : sizeRefusal nine lent ≡ 19
 refused-nine = refusal-of nine lent _ (script-read 0 9 (omega arith) (omega arith)) ∙ ap (λ (k : ℕ). cond (ltb k codes) 0 19) nine-lowest
 
 eight-stored : stored (after (start lent) (take 10 (sizedAll 2 (script 2 17)))) ≡ 1 ∷ 2 ∷ 3 ∷ 4 ∷ 5 ∷ 6 ∷ 7 ∷ 8 ∷ []
-unfolding from sized sizedAll rules-open
+unfolding numbered sized sizedAll rules-open
 eight-stored = refl
 
 pub sizes-met : Sizes-met
@@ -86,7 +86,7 @@ sizes-met =
         lower-lose seventeen lent 1 refused-not (subst (λ (k : ℕ). 1 < k) (sym code-two) (omega arith)),
       );
       higher = higher .0;
-      alike = subst (λ (k : ℕ). Alike (after (start lent) (take 10 (at seventeen k))) (after (start other) (take 10 (at seventeen 5)))) code-two ((higher .1 10) .alike);
+      alike = subst (λ (k : ℕ). Alike (after (start lent) (take 10 (eventsWith seventeen k))) (after (start other) (take 10 (eventsWith seventeen 5)))) code-two ((higher .1 10) .alike);
       values = ap (λ (x : Session). stored (after (start lent) (take 10 (sizedAll 2 (x .events))))) seventeen-read ∙ eight-stored;
       none = refused-nine;
       all = none-plays nine lent .0 refused-nine .1;

@@ -12,7 +12,7 @@ use Rattle.files.specs.File.{session, faultNumber}
 use Rattle.sizing.specs.Smallest.{replays, sizeRefusal, sizeCode}
 use Rattle.sizing.specs.Theorems.{Plays, Loses}
 use Rattle.sizing.specs.Laws.{SizeGiven, badFile, noSize, smallest, Size-exactly, Memory-left}
-use Rattle.sizing.proofs.Sizes.{size-cases, not-both-ends, one-fault, found, found-plays, lower-loses, none-found}
+use Rattle.sizing.proofs.Sizes.{size-cases, not-both-ends, one-fault, codeFound, found-plays, lower-loses, none-found}
 use Rattle.sizing.proofs.Theorems.{fault-other}
 
 -- ---- Refusals and codes
@@ -21,17 +21,17 @@ some-given : (s m : List ℕ) → SizeGiven s (length m) (sizeRefusal s m) (size
 some-given s m =
     size-cases (λ r k _. SizeGiven s (length m) r k) s m
     badFile
-    (λ e l. smallest (found s m) (omega (arith, l)) e (found-plays s m l) (lower-loses s m))
+    (λ e l. smallest (codeFound s m) (omega (arith, l)) e (found-plays s m l) (lower-loses s m))
     (λ e h. noSize e (none-found s m h))
 
 -- a code that plays, with no lower one that does, is the one found
-the-found : (s m : List ℕ) (k : ℕ) → found s m < 16 → Plays s (length m) k → ((j : ℕ) → j < k → Loses s (length m) j) → found s m ≡ k
-the-found s m k l plays loses = go (ltb (found s m) k) refl (ℕ-discrete (found s m) k)
+the-found : (s m : List ℕ) (k : ℕ) → codeFound s m < 16 → Plays s (length m) k → ((j : ℕ) → j < k → Loses s (length m) j) → codeFound s m ≡ k
+the-found s m k l plays loses = go (ltb (codeFound s m) k) refl (ℕ-discrete (codeFound s m) k)
   where
-    go : (t : Bool) → ltb (found s m) k ≡ t → Dec (found s m ≡ k) → found s m ≡ k
+    go : (t : Bool) → ltb (codeFound s m) k ≡ t → Dec (codeFound s m ≡ k) → codeFound s m ≡ k
     go t h (yes q) = q
-    go true h (no d) = absurd (loses (found s m) (ltb-true (found s m) k h) m refl (found-plays s m l m refl))
-    go false h (no d) = absurd (lower-loses s m k (omega (arith, ltb-false (found s m) k h, d)) m refl (plays m refl))
+    go true h (no d) = absurd (loses (codeFound s m) (ltb-true (codeFound s m) k h) m refl (found-plays s m l m refl))
+    go false h (no d) = absurd (lower-loses s m k (omega (arith, ltb-false (codeFound s m) k h, d)) m refl (plays m refl))
 
 is-given : (s m : List ℕ) (r k : ℕ) → SizeGiven s (length m) r k → (sizeRefusal s m ≡ r) × (sizeCode s m ≡ k)
 is-given s m r k (badFile why p h) =
@@ -42,7 +42,7 @@ is-given s m r k (badFile why p h) =
 is-given s m r k (noSize e loses) =
     size-cases (λ r k _. (r ≡ 19) × (k ≡ 0)) s m
     (λ why p h. absurd (not-both-ends _ why p e h))
-    (λ _ l. absurd (loses (found s m) (omega (arith, l)) m refl (found-plays s m l m refl)))
+    (λ _ l. absurd (loses (codeFound s m) (omega (arith, l)) m refl (found-plays s m l m refl)))
     (λ _ _. (refl, refl))
 is-given s m r c (smallest k l e plays loses) =
     size-cases (λ r c _. (r ≡ 0) × (c ≡ k)) s m

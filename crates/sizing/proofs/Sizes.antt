@@ -12,7 +12,7 @@ use Rattle.files.specs.declared.Fault.the-variants.{Version, Cut, Length, Kind}
 use Rattle.files.specs.declared.End.{End}
 use Rattle.files.specs.declared.End.the-variants.{File, Refused}
 use Rattle.files.specs.File.{session, verdict, faultNumber}
-use Rattle.sizing.specs.Smallest.{replays, plays, codes, lowest, replayed, sizeRefusal, sizeCode, sizeMemory}
+use Rattle.sizing.specs.Smallest.{replays, playsInTurn, codes, lowest, replayed, sizeRefusal, sizeCode, sizeMemory}
 use Rattle.sizing.specs.Theorems.{Plays, Loses}
 use Rattle.sizing.proofs.Higher.{turn-plays, turn-loses}
 use Rattle.sizing.proofs.Lowest.{LowestOf, lowest-of}
@@ -69,19 +69,19 @@ one-fault x why why′ p p′ h k = ap (faultIn why) (sym h ∙ k)
 -- ---- The lowest code that plays
 
 module _ (s m : List ℕ) where
-  abbrev pub found : ℕ
-  found = lowest ((session s) .events) m
+  abbrev pub codeFound : ℕ
+  codeFound = lowest ((session s) .events) m
 
-  lowest-told : LowestOf (plays ((session s) .events) m) codes 0 found
+  lowest-told : LowestOf (playsInTurn ((session s) .events) m) codes 0 codeFound
   unfolding lowest
-  lowest-told = lowest-of (plays ((session s) .events) m) codes 0
+  lowest-told = lowest-of (playsInTurn ((session s) .events) m) codes 0
 
-  pub found-plays : found < codes → Plays s (length m) found
-  found-plays l m′ q = turn-plays ((session s) .events) m m′ found q (omega (arith, l)) (lowest-told .passes (omega (arith, l)))
+  pub found-plays : codeFound < codes → Plays s (length m) codeFound
+  found-plays l m′ q = turn-plays ((session s) .events) m m′ codeFound q (omega (arith, l)) (lowest-told .passes (omega (arith, l)))
 
-  pub lower-loses : (k : ℕ) → k < found → Loses s (length m) k
+  pub lower-loses : (k : ℕ) → k < codeFound → Loses s (length m) k
   lower-loses k l m′ q =
       turn-loses ((session s) .events) m m′ k q (omega (arith, l, lowest-told .within)) (lowest-told .fails k (omega arith) l)
 
-  pub none-found : codes ≤ found → (k : ℕ) → k ≤ 15 → Loses s (length m) k
+  pub none-found : codes ≤ codeFound → (k : ℕ) → k ≤ 15 → Loses s (length m) k
   none-found h k l = lower-loses k (omega (arith, h, l))

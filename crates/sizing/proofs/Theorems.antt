@@ -11,9 +11,9 @@ use Rattle.files.specs.declared.End.the-variants.{File}
 use Rattle.files.specs.File.{session, faultNumber}
 use Rattle.demand3.specs.Demand3.{Agree}
 use Rattle.sizing.specs.Smallest.{codes, sizeRefusal, sizeCode}
-use Rattle.sizing.specs.Theorems.{at, Plays, Loses, Named-plays, Lower-lose, None-plays, Higher-play}
+use Rattle.sizing.specs.Theorems.{eventsWith, Plays, Loses, Named-plays, Lower-lose, None-plays, Higher-play}
 use Rattle.sizing.proofs.Higher.{replays-agree, higher-plays}
-use Rattle.sizing.proofs.Sizes.{size-cases, not-both-ends, found, found-plays, lower-loses, none-found}
+use Rattle.sizing.proofs.Sizes.{size-cases, not-both-ends, codeFound, found-plays, lower-loses, none-found}
 
 -- a fault's number is neither 0 nor 19
 pub fault-other : (why : Fault) → (faultNumber why ≡ 0 → ⊥) × (faultNumber why ≡ 19 → ⊥)
@@ -24,9 +24,9 @@ fault-other Length = (λ h. omega (arith, h), λ h. omega (arith, h))
 fault-other Kind = (λ h. omega (arith, h), λ h. omega (arith, h))
 
 -- a code that is named is the one found
-named-found : (s m : List ℕ) → sizeRefusal s m ≡ 0 → (sizeCode s m ≡ found s m) × (found s m < codes)
+named-found : (s m : List ℕ) → sizeRefusal s m ≡ 0 → (sizeCode s m ≡ codeFound s m) × (codeFound s m < codes)
 named-found s m =
-    size-cases (λ r k _. r ≡ 0 → (k ≡ found s m) × (found s m < codes)) s m
+    size-cases (λ r k _. r ≡ 0 → (k ≡ codeFound s m) × (codeFound s m < codes)) s m
     (λ why p _ h. absurd (fault-other why .0 h))
     (λ _ l _. (refl, l))
     (λ _ _ h. absurd (omega (arith, h)))
@@ -48,7 +48,7 @@ none-plays s m = (
   λ g.
       size-cases (λ r _ _. r ≡ 19) s m
       (λ why p e. absurd (not-both-ends _ why p (g .0) e))
-      (λ _ l. absurd (g .1 (found s m) (omega (arith, l)) m refl (found-plays s m l m refl)))
+      (λ _ l. absurd (g .1 (codeFound s m) (omega (arith, l)) m refl (found-plays s m l m refl)))
       (λ _ _. refl),
 )
 
@@ -56,10 +56,9 @@ pub higher-play : Higher-play
 higher-play s m m₁ m₂ k h above within p q =
     let n = named-found s m h in
     let named = found-plays s m (n .1) m₁ p in
-    let above′ : found s m ≤ k = omega (arith, n .0, above) in
-    (
-      higher-plays ((session s) .events) m₁ m₂ (p ∙ sym q) (found s m) k above′ within named,
+    let above′ : codeFound s m ≤ k = omega (arith, n .0, above) in (
+      higher-plays ((session s) .events) m₁ m₂ (p ∙ sym q) (codeFound s m) k above′ within named,
       λ j.
-      subst (λ (c : ℕ). Agree (start m₁) (take j (at s c)) (start m₂) (take j (at s k))) (sym (n .0))
-      (replays-agree ((session s) .events) m₁ m₂ (p ∙ sym q) (found s m) k above′ within named j),
+          subst (λ (c : ℕ). Agree (start m₁) (take j (eventsWith s c)) (start m₂) (take j (eventsWith s k))) (sym (n .0))
+          (replays-agree ((session s) .events) m₁ m₂ (p ∙ sym q) (codeFound s m) k above′ within named j),
     )

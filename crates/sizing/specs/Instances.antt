@@ -9,7 +9,7 @@ use Rattle.rules.specs.Bench.{bor}
 use Rattle.files.specs.Bytes.{fileOf}
 use Rattle.demand3.specs.Demand3.{NothingLost, Alike}
 use Rattle.sizing.specs.Smallest.{sizeRefusal, sizeCode}
-use Rattle.sizing.specs.Theorems.{at, Plays, Loses}
+use Rattle.sizing.specs.Theorems.{eventsWith, Plays, Loses}
 use Rattle.sizing.specs.Examples.{fit, loads, lent}
 
 -- seventeen values on a board with a depth of 32, and nine on one with a depth of 8
@@ -31,9 +31,9 @@ pub record Sizes-met : Type 0 where
   -- Lower-lose, for both lower codes
   pub lower : Loses seventeen 32 0 × Loses seventeen 32 1
   -- Higher-play, for the code 5, after the first ten events: eight values are stored
-  pub higher : NothingLost (start other) (at seventeen 5)
-  pub alike : Alike (after (start lent) (take 10 (at seventeen 2))) (after (start other) (take 10 (at seventeen 5)))
-  pub values : stored (after (start lent) (take 10 (at seventeen 2))) ≡ 1 ∷ 2 ∷ 3 ∷ 4 ∷ 5 ∷ 6 ∷ 7 ∷ 8 ∷ []
+  pub higher : NothingLost (start other) (eventsWith seventeen 5)
+  pub alike : Alike (after (start lent) (take 10 (eventsWith seventeen 2))) (after (start other) (take 10 (eventsWith seventeen 5)))
+  pub values : stored (after (start lent) (take 10 (eventsWith seventeen 2))) ≡ 1 ∷ 2 ∷ 3 ∷ 4 ∷ 5 ∷ 6 ∷ 7 ∷ 8 ∷ []
   -- None-plays
   pub none : sizeRefusal nine lent ≡ 19
   pub all : (k : ℕ) → k ≤ 15 → Loses nine 32 k

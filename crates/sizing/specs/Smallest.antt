@@ -29,8 +29,8 @@ replays es m zero = m
 replays es m (suc k) = (after (start (replays es m k)) (sizedAll k es)) .memory
 
 -- the code k, when its turn comes
-unfoldable pub plays : List Event → List ℕ → ℕ → Bool
-plays es m k = losesNothing (start (replays es m k)) (sizedAll k es)
+unfoldable pub playsInTurn : List Event → List ℕ → ℕ → Bool
+playsInTurn es m k = losesNothing (start (replays es m k)) (sizedAll k es)
 
 -- the lowest of n codes from k on that passes, or the code after them
 unfoldable pub lowestFrom : (ℕ → Bool) → ℕ → ℕ → ℕ
@@ -43,7 +43,7 @@ codes = 16
 
 -- "the lowest code .. at which nothing is lost", or 16 where there is none
 unfoldable pub lowest : List Event → List ℕ → ℕ
-lowest es m = lowestFrom (plays es m) codes 0
+lowest es m = lowestFrom (playsInTurn es m) codes 0
 
 -- "up to the code named (15 for refusal 19)": how many codes were replayed
 abbrev pub replayed : ℕ → ℕ

@@ -18,17 +18,17 @@ use Rattle.sizing.specs.Coded.{sizedAll}
 use Rattle.sizing.specs.Smallest.{sizeRefusal, sizeCode}
 
 -- the events of the session file s, with the size code k
-abbrev pub at : List ℕ → ℕ → List Event
-at s k = sizedAll k ((session s) .events)
+abbrev pub eventsWith : List ℕ → ℕ → List Event
+eventsWith s k = sizedAll k ((session s) .events)
 
 -- The code k plays the session s on every sample memory of n values, whatever stands in it. Only the length of a memory tells, since it
 -- decides which power-ups are accepted.
 abbrev pub Plays : List ℕ → ℕ → ℕ → Type 0
-Plays s n k = (m : List ℕ) → length m ≡ n → NothingLost (start m) (at s k)
+Plays s n k = (m : List ℕ) → length m ≡ n → NothingLost (start m) (eventsWith s k)
 
 -- it plays it on none
 abbrev pub Loses : List ℕ → ℕ → ℕ → Type 0
-Loses s n k = (m : List ℕ) → length m ≡ n → ¬ NothingLost (start m) (at s k)
+Loses s n k = (m : List ℕ) → length m ≡ n → ¬ NothingLost (start m) (eventsWith s k)
 
 abbrev pub Named-plays : Type 0
 Named-plays = (s m : List ℕ) → sizeRefusal s m ≡ 0 → (sizeCode s m ≤ 15) × Plays s (length m) (sizeCode s m)
@@ -54,4 +54,4 @@ Higher-play =
     → k ≤ 15
     → length m₁ ≡ length m
     → length m₂ ≡ length m
-    → NothingLost (start m₂) (at s k) × ((n : ℕ) → Agree (start m₁) (take n (at s (sizeCode s m))) (start m₂) (take n (at s k)))
+    → NothingLost (start m₂) (eventsWith s k) × ((n : ℕ) → Agree (start m₁) (take n (eventsWith s (sizeCode s m))) (start m₂) (take n (eventsWith s k)))

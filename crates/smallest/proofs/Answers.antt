@@ -12,12 +12,12 @@ use Rattle.rules.proofs.Choice.{cond-true, cond-false}
 use Rattle.sizing.specs.Smallest.{replays, codes, lowest, replayed, sizeRefusal, sizeCode, sizeMemory}
 use Rattle.sizing.proofs.Sizes.{size-cases, not-both-ends, one-fault}
 use Rattle.smallest.specs.declared.Smallest.{Smallest}
-use Rattle.smallest.specs.Replaying.{Searched, answerOf}
-use Rattle.smallest.specs.Promises.{Sized}
+use Rattle.smallest.specs.Replaying.{LowestTold, answerOf}
+use Rattle.smallest.specs.Promises.{SizeNamed}
 
 module _ (s m : List ℕ) where
   -- it is refused, and nothing was played
-  pub file-refused : (why : Fault) (p n : ℕ) → (session s) .end ≡ Refused why p → n ≡ faultNumber why → Sized s m (record { refusal = n; code = 0 }) m
+  pub file-refused : (why : Fault) (p n : ℕ) → (session s) .end ≡ Refused why p → n ≡ faultNumber why → SizeNamed s m (record { refusal = n; code = 0 }) m
   file-refused why p n h q =
       let a =
       size-cases (λ r k left. (faultNumber why ≡ r) × (0 ≡ k) × (m ≡ left)) s m
@@ -28,7 +28,7 @@ module _ (s m : List ℕ) where
       record { refusal = q ∙ a .0; code = a .1; memory = a .2 }
 
   -- it is not, and the codes were replayed
-  pub file-searched : (k : ℕ) (memory : List ℕ) → (session s) .end ≡ File → Searched s m k memory → Sized s m (answerOf k) memory
+  pub file-searched : (k : ℕ) (memory : List ℕ) → (session s) .end ≡ File → LowestTold s m k memory → SizeNamed s m (answerOf k) memory
   file-searched k memory h t =
       let low : ℕ = lowest ((session s) .events) m in
       let a =

@@ -22,7 +22,7 @@ use Rattle.run.specs.Way.{Way, Passes}
 use Rattle.run.proofs.Ways.{way-start, way-on, way-over}
 use Rattle.sizing.specs.Coded.{sized, sizedAll}
 use Rattle.sizing.specs.Smallest.{losesNothing}
-use Rattle.smallest.specs.Replaying.{Replayed}
+use Rattle.smallest.specs.Replaying.{ReplayTold}
 
 -- ---- What comes of a session
 
@@ -96,7 +96,7 @@ module _ (k : ℕ) where
               on;
         }
 
-    pub replaying-over : (end : End) → found s c ≡ Over end → Replayed s m k t memory
+    pub replaying-over : (end : End) → found s c ≡ Over end → ReplayTold s m k t memory
     replaying-over end f =
         let here : Replay = replayOf b memory t in
         let o = way-over Replay Replay Comes s (replayOf unpowered m true) here c end here (r .way) f (ended here end) in

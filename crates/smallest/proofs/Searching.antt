@@ -13,8 +13,8 @@ use Rattle.rules.specs.Session.{after}
 use Rattle.rules.proofs.Choice.{cond-true, cond-false}
 use Rattle.files.specs.File.{session}
 use Rattle.sizing.specs.Coded.{sizedAll}
-use Rattle.sizing.specs.Smallest.{losesNothing, replays, plays, lowestFrom, codes, lowest, replayed}
-use Rattle.smallest.specs.Replaying.{Replayed, Searched}
+use Rattle.sizing.specs.Smallest.{losesNothing, replays, playsInTurn, lowestFrom, codes, lowest, replayed}
+use Rattle.smallest.specs.Replaying.{ReplayTold, LowestTold}
 
 -- it stands before the code k with this memory; m is the memory at the start
 pub record Trying (s m memory : List ℕ) (k : ℕ) : Type 0 where
@@ -22,7 +22,7 @@ pub record Trying (s m memory : List ℕ) (k : ℕ) : Type 0 where
   pub long : length memory ≡ length m
   pub replayed-so : memory ≡ replays ((session s) .events) m k
   -- the search from here on is the whole search
-  pub rest : lowestFrom (plays ((session s) .events) m) (codes - k) k ≡ lowest ((session s) .events) m
+  pub rest : lowestFrom (playsInTurn ((session s) .events) m) (codes - k) k ≡ lowest ((session s) .events) m
 
 pub trying-start : (s m : List ℕ) → Trying s m m 0
 unfolding replays lowest
@@ -33,21 +33,21 @@ module _ {s m memory : List ℕ} {k : ℕ} (t : Trying s m memory k) where
   es = (session s) .events
 
   -- what the replay tells of its code
-  told : (r : Bool) (memory′ : List ℕ) → Replayed s memory k r memory′ → (r ≡ plays es m k) × (memory′ ≡ replays es m (suc k))
-  unfolding es plays replays
+  told : (r : Bool) (memory′ : List ℕ) → ReplayTold s memory k r memory′ → (r ≡ playsInTurn es m k) × (memory′ ≡ replays es m (suc k))
+  unfolding es playsInTurn replays
   told r memory′ p = (
     p .whole ∙ ap (λ (x : List ℕ). losesNothing (start x) (sizedAll k es)) (t .replayed-so),
     p .memory ∙ ap (λ (x : List ℕ). (after (start x) (sizedAll k es)) .memory) (t .replayed-so),
   )
 
   -- one more code of the search
-  one-more : k < codes → cond (plays es m k) k (lowestFrom (plays es m) (codes - suc k) (suc k)) ≡ lowest es m
+  one-more : k < codes → cond (playsInTurn es m k) k (lowestFrom (playsInTurn es m) (codes - suc k) (suc k)) ≡ lowest es m
   unfolding es lowestFrom
   one-more l =
       let z : codes - k ≡ suc (codes - suc k) = omega (arith, l) in
-      sym (ap (λ (n : ℕ). lowestFrom (plays ((session s) .events) m) n k) z) ∙ t .rest
+      sym (ap (λ (n : ℕ). lowestFrom (playsInTurn ((session s) .events) m) n k) z) ∙ t .rest
 
-  pub trying-on : (r : Bool) (memory′ : List ℕ) → k < codes → Replayed s memory k r memory′ → r ≡ false → length memory′ ≡ length memory
+  pub trying-on : (r : Bool) (memory′ : List ℕ) → k < codes → ReplayTold s memory k r memory′ → r ≡ false → length memory′ ≡ length memory
       → Trying s m memory′ (k + 1)
   unfolding es
   trying-on r memory′ l p h g =
@@ -60,7 +60,7 @@ module _ {s m memory : List ℕ} {k : ℕ} (t : Trying s m memory k) where
         rest = sym (cond-false _ _ _ (sym (q .0) ∙ h)) ∙ one-more l;
       })
 
-  pub trying-found : (r : Bool) (memory′ : List ℕ) → k < codes → Replayed s memory k r memory′ → r ≡ true → Searched s m k memory′
+  pub trying-found : (r : Bool) (memory′ : List ℕ) → k < codes → ReplayTold s memory k r memory′ → r ≡ true → LowestTold s m k memory′
   unfolding es
   trying-found r memory′ l p h =
       let q = told r memory′ p in
@@ -70,12 +70,12 @@ module _ {s m memory : List ℕ} {k : ℕ} (t : Trying s m memory k) where
         memory = q .1 ∙ ap (replays es m) (sym (cond-true (ltb k codes) _ _ (lt-ltb k codes l)) ∙ ap replayed e);
       }
 
-  pub trying-none : codes ≤ k → Searched s m k memory
+  pub trying-none : codes ≤ k → LowestTold s m k memory
   unfolding es lowestFrom
   trying-none h =
       let z : codes - k ≡ 0 = omega (arith, h) in
       let w : codes ≡ k = omega (arith, h, t .within) in
-      let e : k ≡ lowest es m = sym (ap (λ (n : ℕ). lowestFrom (plays ((session s) .events) m) n k) z) ∙ t .rest in
+      let e : k ≡ lowest es m = sym (ap (λ (n : ℕ). lowestFrom (playsInTurn ((session s) .events) m) n k) z) ∙ t .rest in
       record {
         code = e;
         memory = t .replayed-so ∙ ap (replays es m) (sym w ∙ sym (cond-false (ltb k codes) _ _ (le-ltb k codes h)) ∙ ap replayed e);

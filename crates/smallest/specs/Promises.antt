@@ -5,7 +5,7 @@ use mathlib.Core.List.{List}
 use Rattle.sizing.specs.Smallest.{sizeRefusal, sizeCode, sizeMemory}
 use Rattle.smallest.specs.declared.Smallest.{Smallest}
 
-pub record Sized (s m : List ℕ) (r : Smallest) (m′ : List ℕ) : Type 0 where
+pub record SizeNamed (s m : List ℕ) (r : Smallest) (m′ : List ℕ) : Type 0 where
   pub refusal : r .refusal ≡ sizeRefusal s m
   pub code : r .code ≡ sizeCode s m
   pub memory : m′ ≡ sizeMemory s m

@@ -12,11 +12,11 @@ use Rattle.sizing.specs.Smallest.{losesNothing, replays, codes, lowest, replaye
 use Rattle.smallest.specs.declared.Smallest.{Smallest}
 
 -- the session file s with the code k, from the unpowered record over the memory m
-pub record Replayed (s m : List ℕ) (k : ℕ) (r : Bool) (m′ : List ℕ) : Type 0 where
+pub record ReplayTold (s m : List ℕ) (k : ℕ) (r : Bool) (m′ : List ℕ) : Type 0 where
   pub whole : r ≡ losesNothing (start m) (sizedAll k ((session s) .events))
   pub memory : m′ ≡ (after (start m) (sizedAll k ((session s) .events))) .memory
 
-pub record Searched (s m : List ℕ) (r : ℕ) (m′ : List ℕ) : Type 0 where
+pub record LowestTold (s m : List ℕ) (r : ℕ) (m′ : List ℕ) : Type 0 where
   pub code : r ≡ lowest ((session s) .events) m
   pub memory : m′ ≡ replays ((session s) .events) m (replayed (lowest ((session s) .events) m))
 

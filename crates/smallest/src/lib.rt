@@ -2,7 +2,7 @@
 // `run::next` and `board::step`.
 ghost use mathlib.Core.Path.{_≡_};
 ghost use Rattle.smallest.specs.Replaying.{answerOf};
-ghost use Rattle.smallest.specs.Promises.{Sized};
+ghost use Rattle.smallest.specs.Promises.{SizeNamed};
 use crate::replay::file_end;
 use crate::replay::lowest_code;
 use files::End;
@@ -18,7 +18,7 @@ pub struct Smallest {
 }
 
 // 02: "19 exactly when none of the sixteen codes plays without loss", "names code 0"
-fn named(k: u32) -> Smallest
+fn answer_of(k: u32) -> Smallest
     ensures { λ r. ⌜ r ≡ answerOf k ⌝ }
 {
     if k < 16 {
@@ -36,7 +36,7 @@ fn named(k: u32) -> Smallest
 // The smallest size of a session file over the lent sample memory, which is left as the replays leave it, and untouched where the file is
 // refused. A file of any length is taken.
 pub fn smallest_size(s: &[u8], memory: &mut [u32]) -> Smallest
-    ensures { λ r. ⌜ Sized (now (s .entry)) (now (memory .entry)) r (now (memory .exit)) ⌝ }
+    ensures { λ r. ⌜ SizeNamed (now (s .entry)) (now (memory .entry)) r (now (memory .exit)) ⌝ }
 {
     let end = file_end(s);
     match end {
@@ -46,7 +46,7 @@ pub fn smallest_size(s: &[u8], memory: &mut [u32]) -> Smallest
         },
         End::File => {
             let k = lowest_code(s, memory);
-            named(k)
+            answer_of(k)
         }
     }
 }

@@ -2,7 +2,7 @@
 ghost use Prim.Native.Nat.{_<_};
 ghost use mathlib.Core.Path.{_≡_};
 ghost use Rattle.files.specs.File.{session};
-ghost use Rattle.smallest.specs.Replaying.{Replayed, Searched};
+ghost use Rattle.smallest.specs.Replaying.{ReplayTold, LowestTold};
 use crate::coded::coded;
 use board::step;
 use files::End;
@@ -32,7 +32,7 @@ pub(crate) fn file_end(s: &[u8]) -> End
 // One replay, to its end: whether nothing was lost to a full buffer (fate 2).
 fn replay(s: &[u8], memory: &mut [u32], code: u32) -> bool
     requires { ⌜ code < 16 ⌝ }
-    ensures { λ r. ⌜ Replayed (now (s .entry)) (now (memory .entry)) code r (now (memory .exit)) ⌝ }
+    ensures { λ r. ⌜ ReplayTold (now (s .entry)) (now (memory .entry)) code r (now (memory .exit)) ⌝ }
 {
     let mut b = unpowered();
     let mut c = Cursor { place: 0 };
@@ -57,7 +57,7 @@ fn replay(s: &[u8], memory: &mut [u32], code: u32) -> bool
 // 02: "the lowest code from 0 to 15 at which nothing is lost to a full buffer", or 16 where there is none; "each over what the one before
 // left"
 pub(crate) fn lowest_code(s: &[u8], memory: &mut [u32]) -> u32
-    ensures { λ r. ⌜ Searched (now (s .entry)) (now (memory .entry)) r (now (memory .exit)) ⌝ }
+    ensures { λ r. ⌜ LowestTold (now (s .entry)) (now (memory .entry)) r (now (memory .exit)) ⌝ }
 {
     let mut k: u32 = 0;
     while k < 16 {

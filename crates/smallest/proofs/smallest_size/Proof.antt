@@ -1,7 +1,7 @@
 use mathlib.Core.Path.{sym, subst, _∙_}
 use borrow.Author.Needs.{needs}
 use Rattle.smallest.specs.declared.Smallest.{Smallest}
-use Rattle.smallest.specs.Promises.{Sized}
+use Rattle.smallest.specs.Promises.{SizeNamed}
 use Rattle.smallest.proofs.Answers.{file-refused, file-searched}
 use Rattle.smallest.proofs.smallest_size.Statement.{statement}
 use Rattle.smallest.proofs.smallest_size.Tie as tie
@@ -21,8 +21,8 @@ enum-told c = search needs
 lowest-code-requires : tie.Need-lowest-code-requires
 lowest-code-requires c κs = tt
 
-named-requires : tie.Need-named-requires
-named-requires c κs = tt
+answer-of-requires : tie.Need-answer-of-requires
+answer-of-requires c κs = tt
 
 returns : tie.Need-returns
 returns c =
@@ -37,7 +37,7 @@ returns-2 c =
     let r = c .before .before .before in
     let e = r .before .before in
     let a = e .before .before .before .before .before .args in
-    subst (λ (x : Smallest). Sized (a .s .now) (a .memory .now) x (r .lowest-code .last .1 .0)) (sym (c .named .ensures))
+    subst (λ (x : Smallest). SizeNamed (a .s .now) (a .memory .now) x (r .lowest-code .last .1 .0)) (sym (c .answer-of .ensures))
     (file-searched _ _ _ _ (sym (e .before .before .file-end .ensures) ∙ e .enum-told .given .1) (r .lowest-code .ensures))
 
 pub smallest-size-spec : {M : Type 1} → statement M
@@ -49,7 +49,7 @@ smallest-size-spec =
     fault-number-requires
     enum-told
     lowest-code-requires
-    named-requires
+    answer-of-requires
     returns
     same-length
     returns-2)

@@ -5,8 +5,8 @@ use borrow.Author.Tests.{lt-ltb, le-ltb}
 use Rattle.sizing.specs.Smallest.{codes}
 use Rattle.smallest.specs.declared.Smallest.{Smallest}
 use Rattle.smallest.specs.Replaying.{answerOf}
-use Rattle.smallest.proofs.named.Statement.{statement}
-use Rattle.smallest.proofs.named.Tie as tie
+use Rattle.smallest.proofs.answer_of.Statement.{statement}
+use Rattle.smallest.proofs.answer_of.Tie as tie
 
 below : (k : ℕ) → k < codes → _≡_ {A = Smallest} (record { refusal = 0; code = k }) (answerOf k)
 below k l = rw (lt-ltb k codes l)
@@ -20,5 +20,5 @@ returns c = below (c .before .args .k) (omega (arith, c .if1 .taken))
 returns-2 : tie.Need-returns-2
 returns-2 c = beyond (c .before .args .k) (omega (arith, c .if1 .left))
 
-pub named-spec : {M : Type 1} → statement M
-named-spec = tie.close (tie.spec returns returns-2)
+pub answer-of-spec : {M : Type 1} → statement M
+answer-of-spec = tie.close (tie.spec returns returns-2)
