@@ -11,7 +11,7 @@ use lib.ListN.{length}
 use Rattle.laws.specs.Types.{Event, powerUp, write, read, signal}
 use Rattle.demand3.specs.Demand3.{NeverLower, same, larger, AllNeverLower, none as noEvent, next as nextEvent}
 use Rattle.sizing.specs.Coded.{withCode, sized, sizedAll}
-use Rattle.sizing.specs.Laws.{WithCode, put, kept, AllWithCode, none, next, Sized-told}
+use Rattle.sizing.specs.Laws.{WithCode, put, kept, none, next, Sized-told}
 
 code-put : (k v : ℕ) → k ≤ 15 → (withCode k v % 16 ≡ k) × (withCode k v / 16 ≡ v / 16)
 code-put k v l = (omega (arith, l), omega (arith, l))

@@ -2,10 +2,9 @@
 use Prim.Native.Nat.{ℕ, zero, suc, _≤_}
 use mathlib.Core.Path.{_≡_, refl, sym, ap, _∙_, subst}
 use mathlib.Core.Logic.{_≢_}
-use mathlib.Core.Bool.{Bool, true, false, not, _&&_, cond, false≢true}
+use mathlib.Core.Bool.{true, false, not, cond, false≢true}
 use mathlib.Core.List.{List, [], _∷_}
 use native.Mathlib.Nat.{le-refl}
-use native.Mathlib.Omega.{arith}
 use borrow.Author.Tests.{eqb-false, not-true, ne-eqb}
 use lib.Dec.{ltb, eqb}
 use lib.ListN.{length, take}

@@ -1,7 +1,6 @@
 -- What is answered once the end of the file is known.
 use Prim.Native.Nat.{ℕ, suc}
-use mathlib.Core.Path.{_≡_, refl, sym, ap, _∙_}
-use mathlib.Core.Bool.{cond}
+use mathlib.Core.Path.{_≡_, refl, ap, _∙_}
 use mathlib.Core.List.{List}
 use borrow.Author.Tests.{lt-ltb, le-ltb}
 use lib.Dec.{ltb}
@@ -9,9 +8,8 @@ use Rattle.files.specs.declared.Fault.{Fault}
 use Rattle.files.specs.declared.End.the-variants.{File, Refused}
 use Rattle.files.specs.File.{session, faultNumber}
 use Rattle.rules.proofs.Choice.{cond-true, cond-false}
-use Rattle.sizing.specs.Smallest.{replays, codes, lowest, replayed, sizeRefusal, sizeCode, sizeMemory}
+use Rattle.sizing.specs.Smallest.{replays, codes, lowest, replayed}
 use Rattle.sizing.proofs.Sizes.{size-cases, not-both-ends, one-fault}
-use Rattle.smallest.specs.declared.Smallest.{Smallest}
 use Rattle.smallest.specs.Replaying.{LowestTold, answerOf}
 use Rattle.smallest.specs.Promises.{SizeNamed}
 

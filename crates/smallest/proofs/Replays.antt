@@ -8,7 +8,7 @@ use lib.ListN.{length}
 use Rattle.rules.specs.declared.Event.{Event}
 use Rattle.rules.specs.declared.Board.{Board}
 use Rattle.rules.specs.declared.Answer.{Answer}
-use Rattle.rules.specs.Record.{State, stateOf, unpowered, start}
+use Rattle.rules.specs.Record.{State, stateOf, unpowered}
 use Rattle.rules.specs.Step.{Outcome, step}
 use Rattle.rules.specs.Session.{after}
 use Rattle.files.specs.declared.End.{End}

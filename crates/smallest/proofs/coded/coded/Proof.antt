@@ -1,11 +1,8 @@
 -- Only a write to 0Ch changes.
 use mathlib.Core.Path.{_≡_, sym, ap, _∙_}
 use Prim.Native.Nat.{ℕ, _+_, _*_, _/_}
-use mathlib.Core.Bool.{true, false}
 use borrow.Author.Needs.{needs}
 use borrow.Author.Tests.{eq-eqb, ne-eqb}
-use lib.Dec.{eqb}
-use Rattle.rules.specs.declared.Event.{Event}
 use Rattle.rules.specs.declared.Event.the-variants.{Write as write}
 use Rattle.rules.proofs.Choice.{cond-true, cond-false}
 use Rattle.sizing.specs.Coded.{sized}
