@@ -46,6 +46,13 @@ pub fn record(event: &Event) -> Vec<u8> {
     bytes
 }
 
+/// The records of these events, behind what is there.
+pub fn put(file: &mut Vec<u8>, events: &[Event]) {
+    for event in events {
+        file.extend_from_slice(&record(event));
+    }
+}
+
 /// Where the records stand, told by their lengths alone. The last one may be
 /// cut.
 pub fn places(file: &[u8]) -> Vec<Range<usize>> {

@@ -1,4 +1,4 @@
-//! What the five programs share: their words, records, events and answers as
+//! What the six programs share: their words, records, events and answers as
 //! numbers, the second model behind them, random sessions, session files, and
 //! the way through these. Nothing here needs the archives.
 

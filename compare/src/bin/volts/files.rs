@@ -3,7 +3,6 @@
 
 use super::stretches;
 use compare::damage;
-use compare::fields::Event;
 use compare::file::{self, LONGEST, OPENING};
 use compare::files::{self, File};
 use compare::rng::Rng;
@@ -69,34 +68,28 @@ fn bytes(sort: Sort, rng: &mut Rng) -> Vec<u8> {
     match sort {
         Sort::Bare => {
             let events = stretches::events(rng, true);
-            put(&mut bytes, &events[..rng.below(2) as usize]);
+            file::put(&mut bytes, &events[..rng.below(2) as usize]);
         }
-        Sort::NoPowerUp => put(&mut bytes, &stretches::events(rng, false)),
+        Sort::NoPowerUp => file::put(&mut bytes, &stretches::events(rng, false)),
         Sort::Late => {
-            put(&mut bytes, &stretches::events(rng, true));
+            file::put(&mut bytes, &stretches::events(rng, true));
             damage::any(&mut bytes, rng);
         }
         Sort::Early => {
             let events = stretches::events(rng, true);
-            put(&mut bytes, &events[..1]);
+            file::put(&mut bytes, &events[..1]);
             damage::any(&mut bytes, rng);
-            put(&mut bytes, &events[1..]);
+            file::put(&mut bytes, &events[1..]);
         }
         Sort::Long => {
             while bytes.len() <= LONGEST {
-                put(&mut bytes, &stretches::events(rng, true));
+                file::put(&mut bytes, &stretches::events(rng, true));
             }
             if rng.chance(1, 2) {
                 damage::any(&mut bytes, rng);
             }
         }
-        Sort::Any(_) | Sort::Far => put(&mut bytes, &stretches::events(rng, true)),
+        Sort::Any(_) | Sort::Far => file::put(&mut bytes, &stretches::events(rng, true)),
     }
     bytes
-}
-
-fn put(bytes: &mut Vec<u8>, events: &[Event]) {
-    for event in events {
-        bytes.extend_from_slice(&file::record(event));
-    }
 }
