@@ -1,25 +1,22 @@
 //! Document 01's bench cases, its printed example, and some checks of rules
 //! that the bench cases leave out.
 
+mod common {
+    pub mod bits;
+    pub mod dice;
+    pub mod more_bits;
+}
+
+use common::bits::{BINARY, CALIBRATE, CIRCULAR, EOF, EXTERNAL, INITIALISE, SOFT_CLOCK};
+use common::dice::Dice;
+use common::more_bits::{BURSTS, CLEAR, ENABLED, LOAD_REQUEST};
 use second::{list, listing, rates, step, Answer, Event, Record};
 
-const EOF: u32 = 0x1_0000;
-// BOR bits
-const EXTERNAL: u32 = 1 << 4;
-const ENABLED: u32 = 1 << 5;
-const SOFT_CLOCK: u32 = 1 << 7;
-const CIRCULAR: u32 = 1 << 8;
-const LOAD_REQUEST: u32 = 1 << 9;
-const CLEAR: u32 = 1 << 11;
 // BCR bits
-const BURSTS: u32 = 1 << 0;
 const BURST_TRIGGER: u32 = 1 << 2;
-const BINARY: u32 = 1 << 4;
 const BARRED: u32 = 1 << 6;
 const SIMULTANEOUS: u32 = 1 << 7;
 const REQUEST: u32 = 1 << 11;
-const CALIBRATE: u32 = 1 << 13;
-const INITIALISE: u32 = 1 << 15;
 
 /// A board with its memory, for short test lines.
 struct Bench {
@@ -795,18 +792,7 @@ fn interrupts() {
 
 // ---- long random sessions --------------------------------------------------
 
-/// A small generator (Marsaglia's xorshift), so that no crate is needed.
-struct Dice(u64);
 impl Dice {
-    fn roll(&mut self, sides: u32) -> u32 {
-        self.0 ^= self.0 << 13;
-        self.0 ^= self.0 >> 7;
-        self.0 ^= self.0 << 17;
-        ((self.0 >> 32) % sides as u64) as u32
-    }
-    fn any(&mut self) -> u32 {
-        self.roll(65_536) << 16 | self.roll(65_536)
-    }
     fn event(&mut self) -> Event {
         match self.roll(40) {
             0..=11 => Event::Tick,

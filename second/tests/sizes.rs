@@ -1,40 +1,26 @@
 //! Request 2026-05, "The smallest size that plays": the code named, what counts
 //! as a loss, the memory, and the refusals.
 
-use second::{list, smallest_size, write_session};
+mod common {
+    pub mod bits;
+    pub mod dice;
+    pub mod more_bits;
+    pub mod sessions;
+}
 
-const EOF: u32 = 0x1_0000;
-// BOR; the size code, D3..0, is 0 in all of these
-const EXTERNAL: u32 = 1 << 4;
-const ENABLED: u32 = 1 << 5;
-const SOFT_CLOCK: u32 = 1 << 7;
-const CIRCULAR: u32 = 1 << 8;
-const LOAD_REQUEST: u32 = 1 << 9;
-const CLEAR: u32 = 1 << 11;
-// BCR
-const BURSTS: u32 = 1 << 0;
-const BINARY: u32 = 1 << 4;
-const CALIBRATE: u32 = 1 << 13;
-const INITIALISE: u32 = 1 << 15;
+use common::bits::{BINARY, CALIBRATE, CIRCULAR, EOF, EXTERNAL, INITIALISE, SOFT_CLOCK};
+use common::dice::Dice;
+use common::more_bits::{BURSTS, CLEAR, ENABLED, LOAD_REQUEST};
+use common::sessions::{refused_power_ups, session, too_long, write, DAMAGES};
+use common::sessions::{JUNK, OUTSIDE, PASSED, SETTLED, TICK, TRIGGER};
+use second::{list, smallest_size};
 
-const JUNK: u32 = 0xDEAD_BEEF;
-
-// Events, "six numbers each (kind, then fields)".
-const TICK: [u32; 6] = [4, 0, 0, 0, 0, 0];
-const OUTSIDE: [u32; 6] = [5, 0, 0, 0, 0, 0];
-const TRIGGER: [u32; 6] = [6, 0, 0, 0, 0, 0];
-const PASSED: [u32; 6] = [7, 0, 0, 0, 0, 0];
-const SETTLED: [u32; 6] = [9, 0, 0, 0, 0, 0];
 const READ: [u32; 6] = [3, 0x0C, 0, 0, 0, 0];
 const LOAD: [u32; 6] = write(0x18, 0x9000);
 
 /// Depth 8·2^d, all twenty channels fitted.
 const fn power_up(fitted: u32) -> [u32; 6] {
     [1, fitted, 0, 0, 2, 0]
-}
-
-const fn write(offset: u32, value: u32) -> [u32; 6] {
-    [2, offset, value, 0, 0, 0]
 }
 
 /// A buffer operations write.
@@ -45,15 +31,6 @@ const fn operate(value: u32) -> [u32; 6] {
 /// So many loads.
 fn loads(number: usize) -> Vec<[u32; 6]> {
     vec![LOAD; number]
-}
-
-/// The session file of some events.
-fn session(rows: &[[u32; 6]]) -> Vec<u8> {
-    let mut file = vec![0; 1 + 9 * rows.len()];
-    let written = write_session(rows.as_flattened(), &mut file, 0);
-    assert_eq!(written.refusal, 0);
-    file.truncate(written.place);
-    file
 }
 
 /// One replay, as the listing of a session that has this code in its buffer
@@ -407,14 +384,7 @@ fn no_accepted_power_up() {
     names(&others, 0);
     names(&loads(100), 0);
     // refused power-ups only: 1, 14 to 17 and 2.
-    let refused = [
-        [1, 16, 0, 0, 0, 0],
-        [1, 0, 3, 0, 0, 0],
-        [1, 0, 0, 3, 0, 0],
-        [1, 0, 0, 0, 3, 0],
-        [1, 0, 0, 0, 0, 4096],
-        [1, 5, 0, 0, 0, 0],
-    ];
+    let refused = refused_power_ups(5);
     for power_up in refused {
         names(&[vec![power_up, operate(0)], loads(300)].concat(), 0);
     }
@@ -424,14 +394,7 @@ fn no_accepted_power_up() {
 #[test]
 fn refused_power_up() {
     // The values and the size code of the record before it stay.
-    for refused in [
-        [1, 16, 0, 0, 0, 0],
-        [1, 0, 3, 0, 0, 0],
-        [1, 0, 0, 3, 0, 0],
-        [1, 0, 0, 0, 3, 0],
-        [1, 0, 0, 0, 0, 4096],
-        [1, 5, 0, 0, 0, 0],
-    ] {
+    for refused in refused_power_ups(5) {
         let mut rows = vec![power_up(3), operate(0)];
         rows.extend(loads(9));
         rows.push(refused);
@@ -565,25 +528,15 @@ fn file_refusals_come_first() {
         [vec![power_up(3), operate(0)], loads(33)].concat(),
         [vec![power_up(0), operate(0)], loads(9)].concat(),
     ];
-    let damages: [(&[u8], u32); 8] = [
-        (&[0x00], 11),
-        (&[0x00, 0x01], 11),
-        (&[0x00, 0x07, 0x01, 0x00, 0x00], 11),
-        (&[0x00, 0x00], 12),
-        (&[0x00, 0x02, 0x04, 0x00], 12),
-        (&[0x00, 0x06, 0x01, 0x00, 0x00, 0x00, 0x00, 0x00], 12),
-        (&[0x00, 0x01, 0x00], 13),
-        (&[0x00, 0x01, 0x0A], 13),
-    ];
     for rows in &sessions {
         let file = session(rows);
-        for (damage, number) in damages {
+        for (damage, number) in DAMAGES {
             refuses(&[&file, damage].concat(), number);
         }
         // In the middle, also with damage of another number behind it: the
         // first one decides.
-        for (damage, number) in &damages[3..] {
-            for (behind, _) in damages {
+        for (damage, number) in &DAMAGES[3..] {
+            for (behind, _) in DAMAGES {
                 let file = [&file, *damage, &file[1..], behind].concat();
                 refuses(&file, *number);
             }
@@ -599,10 +552,7 @@ fn longer_than_rehearse_reads() {
     rows.extend(loads(16));
     rows.extend(vec![READ; 30_000]);
     let mut file = session(&rows);
-    assert!(file.len() > 65_536);
-    let mut out = Vec::new();
-    list(&file, &mut [0; 64], &mut out);
-    assert_eq!(out, b"TOO LONG\n");
+    too_long(&file, &mut [0; 64]);
     let answer = |file: &[u8]| smallest_size(file, &mut [JUNK; 64]);
     assert_eq!(answer(&file), (0, 1));
 
@@ -618,18 +568,7 @@ fn longer_than_rehearse_reads() {
 
 // ---- random sessions -------------------------------------------------------
 
-/// A small generator (Marsaglia's xorshift), so that no crate is needed.
-struct Dice(u64);
 impl Dice {
-    fn roll(&mut self, sides: u32) -> u32 {
-        self.0 ^= self.0 << 13;
-        self.0 ^= self.0 >> 7;
-        self.0 ^= self.0 << 17;
-        ((self.0 >> 32) % u64::from(sides)) as u32
-    }
-    fn any(&mut self) -> u32 {
-        self.roll(65_536) << 16 | self.roll(65_536)
-    }
     fn row(&mut self) -> [u32; 6] {
         match self.roll(160) {
             0..=44 => TICK,

@@ -1,37 +1,28 @@
 //! Request 2026-03, "Lowest, highest and last volts": the numbers, what counts,
 //! and the refusals.
 
-use second::{list, step, volts, write_session, Event, Record, Volts};
+mod common {
+    pub mod bits;
+    pub mod dice;
+    pub mod sessions;
+}
 
-const EOF: u32 = 0x1_0000;
+use common::bits::{BINARY, CALIBRATE, CIRCULAR, EOF, EXTERNAL, INITIALISE, SOFT_CLOCK};
+use common::dice::Dice;
+use common::sessions::{refused_power_ups, session, too_long, write, DAMAGES};
+use common::sessions::{JUNK, OUTSIDE, PASSED, SETTLED, TICK, TRIGGER};
+use second::{step, volts, Event, Record, Volts};
+
 // BOR: clocking enabled, size code 15
 const ENABLED: u32 = 0x2F;
-const EXTERNAL: u32 = 1 << 4;
-const SOFT_CLOCK: u32 = 1 << 7;
-const CIRCULAR: u32 = 1 << 8;
 // BCR
-const BINARY: u32 = 1 << 4;
 const SIMULTANEOUS: u32 = 1 << 7;
-const CALIBRATE: u32 = 1 << 13;
-const INITIALISE: u32 = 1 << 15;
 
-const JUNK: u32 = 0xDEAD_BEEF;
-
-// Events, "six numbers each (kind, then fields)".
-const TICK: [u32; 6] = [4, 0, 0, 0, 0, 0];
-const OUTSIDE: [u32; 6] = [5, 0, 0, 0, 0, 0];
-const TRIGGER: [u32; 6] = [6, 0, 0, 0, 0, 0];
-const PASSED: [u32; 6] = [7, 0, 0, 0, 0, 0];
-const SETTLED: [u32; 6] = [9, 0, 0, 0, 0, 0];
 const READ: [u32; 6] = [3, 0x10, 0, 0, 0, 0];
 
 /// Accepted: depth 8, all twenty channels fitted.
 fn power_up(range: u32) -> [u32; 6] {
     [1, 0, range, 0, 2, 0]
-}
-
-fn write(offset: u32, value: u32) -> [u32; 6] {
-    [2, offset, value, 0, 0, 0]
 }
 
 /// Plays these levels on one channel, one after the other.
@@ -41,15 +32,6 @@ fn play(channel: u32, levels: &[u32]) -> Vec<[u32; 6]> {
         rows.extend([write(0x18, *level), TICK]);
     }
     rows
-}
-
-/// The session file of some events.
-fn session(rows: &[[u32; 6]]) -> Vec<u8> {
-    let mut file = vec![0; 1 + 9 * rows.len()];
-    let written = write_session(rows.as_flattened(), &mut file, 0);
-    assert_eq!(written.refusal, 0);
-    file.truncate(written.place);
-    file
 }
 
 /// "times 65,536 each is the level less 32,768, times 5, 10 or 20 for range 0, 1,
@@ -397,14 +379,7 @@ fn no_accepted_power_up() {
     let loads = play(0, &[0x9000, 0x7000]);
     refuses(&session(&loads), &lent, &lent, 18);
     // refused power-ups only: 1, 14 to 17 and 2
-    let refused = [
-        [1, 16, 0, 0, 0, 0],
-        [1, 0, 3, 0, 0, 0],
-        [1, 0, 0, 3, 0, 0],
-        [1, 0, 0, 0, 3, 0],
-        [1, 0, 0, 0, 0, 4096],
-        [1, 1, 0, 0, 0, 0],
-    ];
+    let refused = refused_power_ups(1);
     for power_up in refused {
         refuses(&session(&[power_up]), &lent, &lent, 18);
     }
@@ -436,17 +411,7 @@ fn file_refusals_come_first() {
     let played = session(&[vec![power_up(0)], play(0, &[0x9000, 0x7000])].concat());
     let mut left = lent;
     left[..2].copy_from_slice(&[0x9000, 0x7000]);
-    let damages: [(&[u8], u32); 8] = [
-        (&[0x00], 11),
-        (&[0x00, 0x01], 11),
-        (&[0x00, 0x07, 0x01, 0x00, 0x00], 11),
-        (&[0x00, 0x00], 12),
-        (&[0x00, 0x02, 0x04, 0x00], 12),
-        (&[0x00, 0x06, 0x01, 0x00, 0x00, 0x00, 0x00, 0x00], 12),
-        (&[0x00, 0x01, 0x00], 13),
-        (&[0x00, 0x01, 0x0A], 13),
-    ];
-    for (damage, number) in damages {
+    for (damage, number) in DAMAGES {
         let damaged = |file: &[u8]| [file, damage].concat();
         refuses(&damaged(&[0x01]), &lent, &lent, number);
         refuses(&damaged(&none), &lent, &lent, number);
@@ -455,7 +420,7 @@ fn file_refusals_come_first() {
         refuses(&damaged(&played), &lent, &left, number);
     }
     // 12 and 13 stop the run: the power-up and the loads behind do not happen.
-    for (damage, number) in &damages[5..] {
+    for (damage, number) in &DAMAGES[5..] {
         let file = [&[0x01], *damage, &played[1..]].concat();
         refuses(&file, &lent, &lent, *number);
         let file = [&played, *damage, &played[1..]].concat();
@@ -471,10 +436,7 @@ fn longer_than_rehearse_reads() {
     rows.extend(vec![READ; 30_000]);
     rows.extend(play(0, &[0xFFFF, 0x9000]));
     let mut file = session(&rows);
-    assert!(file.len() > 65_536);
-    let mut out = Vec::new();
-    list(&file, &mut [0; 8], &mut out);
-    assert_eq!(out, b"TOO LONG\n");
+    too_long(&file, &mut [0; 8]);
 
     gives(&rows, 1, &[[0x0000, 0xFFFF, 0x9000]]);
     // Damaged at its far end: the last tick is cut off.
@@ -487,18 +449,7 @@ fn longer_than_rehearse_reads() {
 
 // ---- random sessions -------------------------------------------------------
 
-/// A small generator (Marsaglia's xorshift), so that no crate is needed.
-struct Dice(u64);
 impl Dice {
-    fn roll(&mut self, sides: u32) -> u32 {
-        self.0 ^= self.0 << 13;
-        self.0 ^= self.0 >> 7;
-        self.0 ^= self.0 << 17;
-        ((self.0 >> 32) % u64::from(sides)) as u32
-    }
-    fn any(&mut self) -> u32 {
-        self.roll(65_536) << 16 | self.roll(65_536)
-    }
     fn row(&mut self) -> [u32; 6] {
         match self.roll(40) {
             0..=13 => TICK,

@@ -1,6 +1,11 @@
 //! Request 2026-01, "Write session files": the writer, its refusals and their
 //! order, and the way there and back.
 
+mod common {
+    pub mod dice;
+}
+
+use common::dice::Dice;
 use second::{rows_of, write_session, Written};
 
 /// Document 01's worked example.
@@ -309,22 +314,14 @@ fn files_refused() {
     assert_eq!(rows_of(&bytes("01 000104 0001 0A")), Err(13));
 }
 
-/// A small generator (Marsaglia's xorshift), so that no crate is needed.
-struct Dice(u64);
 impl Dice {
-    fn roll(&mut self, sides: u32) -> u32 {
-        self.0 ^= self.0 << 13;
-        self.0 ^= self.0 >> 7;
-        self.0 ^= self.0 << 17;
-        ((self.0 >> 32) % sides as u64) as u32
-    }
     /// A number of up to `bytes` bytes: often the smallest or the largest.
     fn number(&mut self, bytes: u32) -> u32 {
         let largest = ((1_u64 << (8 * bytes)) - 1) as u32;
         match self.roll(4) {
             0 => 0,
             1 => largest,
-            _ => (self.roll(65_536) << 16 | self.roll(65_536)) & largest,
+            _ => self.any() & largest,
         }
     }
     /// A good event.
