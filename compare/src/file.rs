@@ -92,6 +92,15 @@ pub fn event(record: &[u8]) -> Option<Event> {
     Some(event)
 }
 
+/// The events up to the first record that has none.
+pub fn events(file: &[u8]) -> Vec<Event> {
+    if file.first() != Some(&OPENING) {
+        return Vec::new();
+    }
+    let places = places(file).into_iter();
+    places.map_while(|place| event(&file[place])).collect()
+}
+
 /// Why a record has no event: "then per record 11, length 0 (12), 13, 12".
 pub fn trouble(record: &[u8]) -> &'static str {
     match *record {

@@ -2,6 +2,8 @@
 //! the same after it.
 
 use crate::guarded::{Guarded, Wrongs};
+use crate::lending::Lending;
+use crate::rng::Rng;
 
 /// What stands beside ours.
 const GUARD: u32 = 0xC0DE_FACE;
@@ -27,6 +29,16 @@ impl Memory {
         self.model.resize(length, 0);
         self.model.fill_with(entry);
         self.ours.set(self.model.iter().copied());
+    }
+
+    /// Makes it as it is lent. Answers whether it is full of junk.
+    pub fn lend(&mut self, lending: Lending) -> bool {
+        let junk = lending.anew || self.model.len() != lending.length;
+        if junk {
+            let mut rng = Rng::new(lending.junk as u64, 0);
+            self.set(lending.length, || rng.word());
+        }
+        junk
     }
 
     /// Tells what differs, and makes the model's as ours is.

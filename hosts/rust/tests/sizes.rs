@@ -1,10 +1,9 @@
 //! The smallest size through the wrapper: its codes, each refusal by name, and the sample memory afterwards.
 
-use nergutsai::{
-    list, room, session_room, smallest_size, smallest_size_call, write, Event, Refusal,
-};
+mod common;
 
-const JUNK: u32 = 0xDEAD_BEEF;
+use common::{damaged, session, JUNK};
+use nergutsai::{list, room, smallest_size, smallest_size_call, Event, Refusal};
 
 /// 0Ch: the clock enabled, with size code 0; circular too.
 const RUNNING: u32 = 0x20;
@@ -30,14 +29,6 @@ fn set(offset: u32, value: u32) -> Event {
 /// Loads the values 0, 1 and so on, 16 bits each.
 fn loads(count: u32) -> Vec<Event> {
     (0..count).map(|i| set(0x18, i & 0xFFFF)).collect()
-}
-
-fn session(events: &[Event]) -> Vec<u8> {
-    let rows: Vec<u32> = events.iter().flat_map(|event| event.row()).collect();
-    let mut file = vec![0; session_room(events.len())];
-    let end = write(&rows, &mut file, 0).expect("it has room");
-    file.truncate(end);
-    file
 }
 
 /// The smallest size of these events, and then of so many loads, in a memory of 128 values: the depth of fitted code 4.
@@ -134,33 +125,15 @@ fn each_refusal_has_its_name_and_code_0() {
     let lost = session(&[&[power_up(0), set(0x0C, RUNNING)], &loads(9)[..]].concat());
     let stored = [0, 1, 2, 3, 4, 5, 6, 7, JUNK];
     let junk = [JUNK; 9];
+    // What is wrong with the file is told first, and the records before it are not played.
+    let damaged = damaged(&lost).map(|(file, refusal, number)| (file, refusal, number, junk));
     let cases = [
         (vec![], Refusal::NotASession, 10, junk),
         ([&[2], &lost[1..]].concat(), Refusal::NotASession, 10, junk),
-        // What is wrong with the file is told first, and the records before it are not played.
-        ([&lost[..], &[0]].concat(), Refusal::Cut, 11, junk),
         (lost[..lost.len() - 1].to_vec(), Refusal::Cut, 11, junk),
-        (
-            [&lost[..], &[0, 0]].concat(),
-            Refusal::WrongLength,
-            12,
-            junk,
-        ),
-        (
-            [&lost[..], &[0, 1, 3]].concat(),
-            Refusal::WrongLength,
-            12,
-            junk,
-        ),
-        (
-            [&lost[..], &[0, 1, 10]].concat(),
-            Refusal::UnknownKind,
-            13,
-            junk,
-        ),
         (lost, Refusal::NoSizePlays, 19, stored),
     ];
-    for (file, refusal, number, left) in cases {
+    for (file, refusal, number, left) in damaged.into_iter().chain(cases) {
         let mut memory = junk;
         assert_eq!(smallest_size(&file, &mut memory), Err(refusal));
         assert_eq!(memory, left);

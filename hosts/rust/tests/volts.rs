@@ -1,8 +1,10 @@
 //! The table of volts through the wrapper: its numbers, each refusal by name, and the sample memory afterwards.
 
-use nergutsai::{list, room, session_room, volts, volts_call, write, Event, Extremes, Refusal};
+mod common;
 
-const JUNK: u32 = 0xDEAD_BEEF;
+use common::{damaged, session, JUNK};
+use nergutsai::{list, room, volts, volts_call, Event, Extremes, Refusal};
+
 const ZERO: Extremes = Extremes {
     lowest: 0.0,
     highest: 0.0,
@@ -28,14 +30,6 @@ fn play(levels: &[u32]) -> Vec<Event> {
         events.extend([set(0x18, *level), Event::Tick]);
     }
     events
-}
-
-fn session(events: &[Event]) -> Vec<u8> {
-    let rows: Vec<u32> = events.iter().flat_map(|event| event.row()).collect();
-    let mut file = vec![0; session_room(events.len())];
-    let end = write(&rows, &mut file, 0).expect("it has room");
-    file.truncate(end);
-    file
 }
 
 /// A session with a power-up and three values, and what they leave in a memory of 9.
@@ -111,36 +105,19 @@ fn each_refusal_has_its_name_and_sixty_positive_zeros() {
         kit: 0,
         firmware: 0,
     }]);
+    // The records before are played.
+    let damaged = damaged(&good).map(|(file, refusal, number)| (file, refusal, number, left));
     let cases = [
         (vec![], Refusal::NotASession, 10, junk),
         ([&[2], &good[1..]].concat(), Refusal::NotASession, 10, junk),
-        ([&good[..], &[0]].concat(), Refusal::Cut, 11, left),
         (good[..5].to_vec(), Refusal::Cut, 11, junk),
-        (
-            [&good[..], &[0, 0]].concat(),
-            Refusal::WrongLength,
-            12,
-            left,
-        ),
-        (
-            [&good[..], &[0, 1, 3]].concat(),
-            Refusal::WrongLength,
-            12,
-            left,
-        ),
-        (
-            [&good[..], &[0, 1, 10]].concat(),
-            Refusal::UnknownKind,
-            13,
-            left,
-        ),
         (vec![1], Refusal::NoPowerUp, 18, junk),
         (no_power_up.clone(), Refusal::NoPowerUp, 18, junk),
         (short, Refusal::NoPowerUp, 18, junk),
         // What is wrong with the file is told first.
         ([&no_power_up[..], &[0]].concat(), Refusal::Cut, 11, junk),
     ];
-    for (file, refusal, number, left) in cases {
+    for (file, refusal, number, left) in damaged.into_iter().chain(cases) {
         let mut memory = junk;
         assert_eq!(volts(&file, &mut memory), Err(refusal));
         assert_eq!(memory, left);

@@ -1,7 +1,7 @@
 //! How full the fullest buffer of a session gets, by the size code that is to be
 //! its answer.
 
-use compare::file::MEMORY;
+use compare::power_ups::DEEPEST;
 use compare::rng::Rng;
 
 #[derive(Clone, Copy)]
@@ -18,8 +18,6 @@ pub struct Aim {
 const CODES: [u32; 11] = [160, 180, 150, 110, 80, 60, 40, 30, 20, 16, 16];
 /// The fitted codes of the others.
 const SHALLOW: [u32; 12] = [0, 0, 0, 0, 1, 1, 1, 2, 2, 3, 4, 6];
-/// The fitted code that the usual memory is just deep enough for.
-pub const DEEPEST: u32 = (MEMORY / 8).ilog2();
 
 /// More values than this take thousands of events.
 const LONG: u32 = 200;

@@ -2,6 +2,7 @@
 //! holds of every one.
 
 use compare::guarded::Wrongs;
+use compare::question::Said;
 
 /// "19 exactly when none of the sixteen codes plays without loss"
 pub const NO_CODE: u32 = 19;
@@ -19,9 +20,14 @@ impl Answer {
     pub fn is_of_file(self) -> bool {
         matches!(self.refusal, 10..=13)
     }
+}
 
-    /// What this one, the model's, and ours differ in.
-    pub fn compare(self, ours: Answer, wrongs: &mut Wrongs) {
+impl Said for Answer {
+    fn refusal(&self) -> u32 {
+        self.refusal
+    }
+
+    fn compare(&self, ours: &Answer, wrongs: &mut Wrongs) {
         if self.refusal != ours.refusal {
             wrongs.push(format!("refusal {}/{}", self.refusal, ours.refusal));
         }
@@ -30,9 +36,7 @@ impl Answer {
         }
     }
 
-    /// What holds of every answer, whatever the session and the model. The
-    /// memory is as it was, or it is not.
-    pub fn laws(self, untouched: bool, wrongs: &mut Wrongs) {
+    fn laws(&self, untouched: bool, wrongs: &mut Wrongs) {
         let mut law = |holds: bool, text: &str| {
             if !holds {
                 wrongs.push(text.to_string());
@@ -51,6 +55,16 @@ impl Answer {
             untouched || !self.is_of_file(),
             "ours wrote to the memory of a refused file",
         );
+    }
+
+    fn print(&self, ours: &Answer) {
+        println!("      {:<20} {:<12} ours", "", "model");
+        for (name, model, ours) in [
+            ("refusal", self.refusal, ours.refusal),
+            ("size code", self.code, ours.code),
+        ] {
+            println!("      {name:<20} {model:<12} {ours}");
+        }
     }
 }
 

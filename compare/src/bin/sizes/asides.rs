@@ -1,9 +1,9 @@
 //! What comes between loads and clocks: writes to BOR that are taken or refused,
 //! and what sets the buffer or the clocks back.
 
-use super::bits::*;
 use super::board::Board;
 use super::{power_ups, stretches};
+use compare::bits::*;
 use compare::fields::*;
 use compare::rng::Rng;
 

@@ -2,7 +2,7 @@
 //! the largest size code in every write to BOR, so that what comes next can go
 //! by what is stored where nothing is lost to a smaller size.
 
-use super::bits::*;
+use compare::bits::*;
 use compare::fields::*;
 use compare::file::MEMORY;
 use compare::model;

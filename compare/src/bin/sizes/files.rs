@@ -1,13 +1,15 @@
 //! The session files of a seed: one of `compare/sessions`, and one that is made
 //! for the sizes, in turn.
 
-use super::aim::{Aim, DEEPEST};
+use super::aim::Aim;
 use super::stretches;
 use compare::damage;
 use compare::fields::depth;
 use compare::file::{self, LONGEST, OPENING};
 use compare::files::{self, File};
+use compare::power_ups::DEEPEST;
 use compare::rng::Rng;
+use std::fmt;
 
 #[derive(Clone, Copy, PartialEq, Eq, PartialOrd, Ord)]
 pub enum Sort {
@@ -30,9 +32,9 @@ pub enum Sort {
     Deep(u32),
 }
 
-impl Sort {
-    pub fn name(self) -> String {
-        let name = match self {
+impl fmt::Display for Sort {
+    fn fmt(&self, f: &mut fmt::Formatter) -> fmt::Result {
+        f.write_str(match self {
             Sort::Any(sort) => sort.name(),
             Sort::Full => "buffers that fill",
             Sort::NoPowerUp => "no power-up accepted",
@@ -40,11 +42,14 @@ impl Sort {
             Sort::Late => "buffers that fill, damaged",
             Sort::Early => "buffers that fill, the first record damaged",
             Sort::Long => "buffers that fill, longer than 65,536 bytes",
-            Sort::Deep(fitted) => return format!("a buffer of fitted code {fitted} that fills"),
-        };
-        name.to_string()
+            Sort::Deep(fitted) => {
+                return write!(f, "a buffer of fitted code {fitted} that fills");
+            }
+        })
     }
+}
 
+impl Sort {
     /// The memory that must be lent with it, if not any will do.
     pub fn memory(self) -> Option<usize> {
         match self {

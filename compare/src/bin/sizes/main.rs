@@ -4,10 +4,9 @@
 mod aim;
 mod answer;
 mod asides;
-mod bits;
+mod asked;
 mod board;
 mod files;
-mod lent;
 mod losses;
 mod power_ups;
 mod replay;
@@ -15,14 +14,9 @@ mod rounds;
 mod seen;
 mod stretches;
 mod tally;
-mod tried;
 
-use compare::options::Options;
-use compare::process::Progress;
-use compare::trials;
-use lent::Lent;
-use tally::Tally;
-use tried::Tried;
+use asked::Sizes;
+use compare::question;
 
 const HELP: &str = "\
 compare/sizes - the second model's smallest size that plays against libgauge.a
@@ -47,22 +41,5 @@ Exit status: 0 nothing differs, 1 something does, 2 wrong usage.
 ";
 
 fn main() {
-    trials::program::<Tried>("compare/sizes", HELP, run);
-}
-
-/// The whole comparison. Answers the exit status.
-fn run(options: &Options, progress: &Progress) -> i32 {
-    let mut lent = Lent::new();
-    let mut tally = options.coverage.then(Tally::default);
-    let counted = trials::each(options, progress, |_, tried| {
-        let found = lent.sizes(tried);
-        if let Some(tally) = &mut tally {
-            tally.note(tried, &found);
-        }
-        found.wrongs
-    });
-    if let Some(tally) = &tally {
-        tally.print();
-    }
-    trials::end(counted)
+    question::program::<Sizes>("compare/sizes", HELP);
 }

@@ -1,20 +1,9 @@
 //! A replay on the model, event by event. Only for `--coverage`: it tells what
 //! happened in a session, and the comparison itself never asks.
 
-use super::bits::CODE_BITS;
+use compare::bits::CODE_BITS;
 use compare::fields::*;
-use compare::{file, model};
-
-/// The events up to the first record that has none.
-pub fn events(bytes: &[u8]) -> Vec<Event> {
-    if bytes.first() != Some(&file::OPENING) {
-        return Vec::new();
-    }
-    let places = file::places(bytes).into_iter();
-    places
-        .map_while(|place| file::event(&bytes[place]))
-        .collect()
-}
+use compare::model;
 
 /// Replays with this size code in every write to BOR. After each event `after`
 /// gets the event, its answer, and the record before and after; it says whether

@@ -2,8 +2,8 @@
 //! of a frame, a burst does not end, and a buffer does not open or close when it
 //! would: so the replays leave different values in the memory, in other places.
 
-use super::bits::*;
 use super::board::Board;
+use compare::bits::*;
 use compare::fields::*;
 use compare::rng::Rng;
 

@@ -1,9 +1,9 @@
 //! What happens in a session, told from the last of its replays. Only for
 //! `--coverage`.
 
-use super::bits::*;
 use super::losses::{LOST_TO_CLOSED, STORED};
 use super::replay::replay;
+use compare::bits::*;
 use compare::fields::*;
 
 #[derive(Default)]

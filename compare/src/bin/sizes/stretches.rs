@@ -3,9 +3,9 @@
 //! as the session is to fill any.
 
 use super::aim::{least, Aim};
-use super::bits::*;
 use super::board::Board;
 use super::{asides, power_ups, rounds};
+use compare::bits::*;
 use compare::fields::*;
 use compare::rng::Rng;
 

@@ -1,22 +1,17 @@
-//! `--coverage`: what sorts of session there were, and what was answered.
+//! `--coverage`: what happened in the sessions, and what was answered.
 
 use super::aim::least;
 use super::answer::{Answer, LAST, NO_CODE};
-use super::bits::*;
-use super::files::Sort;
-use super::lent::Found;
+use super::asked::Sizes;
 use super::losses::Losses;
-use super::replay;
 use super::seen::Seen;
-use super::tried::{Tried, LONGER, SHORT};
+use compare::bits::*;
 use compare::counts::Counts;
-use compare::file::{LONGEST, MEMORY};
-use std::collections::BTreeMap;
+use compare::file::{self, LONGEST};
+use compare::question::{self, Tried};
 
 #[derive(Default)]
 pub struct Tally {
-    sorts: BTreeMap<Sort, u64>,
-    memories: Counts,
     refusals: Counts,
     codes: Counts,
     runs: Counts,
@@ -28,39 +23,34 @@ const REFUSALS: [u32; 6] = [0, 10, 11, 12, 13, NO_CODE];
 /// Up to this code some buffers are filled to the last value.
 const FILLED: u32 = 11;
 
-impl Tally {
-    pub fn note(&mut self, tried: &Tried, found: &Found) {
-        *self.sorts.entry(tried.sort).or_default() += 1;
-        let Some(answer) = found.model else {
-            return;
-        };
+impl question::Tally<Sizes> for Tally {
+    fn note(&mut self, tried: &Tried<Sizes>, answer: &Answer) {
+        let answer = *answer;
         let last = match answer.refusal {
             NO_CODE => LAST,
             _ => answer.code,
         };
-        let events = replay::events(&tried.bytes);
-        let seen = Seen::new(&events, tried.memory, last);
-        let losses = Losses::new(&events, tried.memory, last);
-        self.memory(tried.memory, found.junk);
+        let events = file::events(&tried.bytes);
+        let memory = tried.memory.length;
+        let seen = Seen::new(&events, memory, last);
+        let losses = Losses::new(&events, memory, last);
         self.refusal(answer, &seen, &losses, tried.bytes.len());
         self.code(answer, &seen, tried.bytes.len());
         self.run(answer, &seen);
         self.replay(answer, &seen, &losses, events.len());
     }
 
-    fn memory(&mut self, memory: usize, junk: bool) {
-        let counts = &mut self.memories;
-        counts.begin();
-        let deep = [4 * MEMORY, 8 * MEMORY, 16 * MEMORY];
-        let lengths = SHORT.into_iter().chain([MEMORY]).chain(LONGER).chain(deep);
-        for length in lengths {
-            let name = format_args!("of length {length}");
-            counts.hit(name, memory == length);
-        }
-        counts.hit(format_args!("full of junk"), junk);
-        counts.hit(format_args!("as the last session left it"), !junk);
+    fn parts(&self) -> Vec<(&'static str, &Counts)> {
+        vec![
+            ("answers:", &self.refusals),
+            ("codes:", &self.codes),
+            ("sessions with an answer:", &self.runs),
+            ("replays:", &self.replays),
+        ]
     }
+}
 
+impl Tally {
     fn refusal(&mut self, answer: Answer, seen: &Seen, losses: &Losses, length: usize) {
         let counts = &mut self.refusals;
         counts.begin();
@@ -224,23 +214,6 @@ impl Tally {
         ];
         for (name, happened) in lines {
             counts.hit(format_args!("{name}"), !answer.is_of_file() && happened);
-        }
-    }
-
-    pub fn print(&self) {
-        println!("sessions:");
-        for (sort, number) in &self.sorts {
-            println!("  {number:9}  {}", sort.name());
-        }
-        for (head, counts) in [
-            ("memories:", &self.memories),
-            ("answers:", &self.refusals),
-            ("codes:", &self.codes),
-            ("sessions with an answer:", &self.runs),
-            ("replays:", &self.replays),
-        ] {
-            println!("{head}");
-            counts.print();
         }
     }
 }

@@ -6,6 +6,7 @@ use compare::damage;
 use compare::file::{self, LONGEST, OPENING};
 use compare::files::{self, File};
 use compare::rng::Rng;
+use std::fmt;
 
 #[derive(Clone, Copy, PartialEq, Eq, PartialOrd, Ord)]
 pub enum Sort {
@@ -25,9 +26,9 @@ pub enum Sort {
     Long,
 }
 
-impl Sort {
-    pub fn name(self) -> &'static str {
-        match self {
+impl fmt::Display for Sort {
+    fn fmt(&self, f: &mut fmt::Formatter) -> fmt::Result {
+        f.write_str(match self {
             Sort::Any(sort) => sort.name(),
             Sort::Far => "levels that go far",
             Sort::NoPowerUp => "no power-up accepted",
@@ -35,7 +36,7 @@ impl Sort {
             Sort::Late => "levels that go far, damaged",
             Sort::Early => "levels that go far, the first record damaged",
             Sort::Long => "levels that go far, longer than 65,536 bytes",
-        }
+        })
     }
 }
 

@@ -1,20 +1,15 @@
 //! Compares the lowest, highest and last volts of whole session files: the
 //! second model's with those of libtide.a.
 
+mod asked;
 mod files;
-mod lent;
 mod seen;
 mod stretches;
 mod table;
 mod tally;
-mod tried;
 
-use compare::options::Options;
-use compare::process::Progress;
-use compare::trials;
-use lent::Lent;
-use tally::Tally;
-use tried::Tried;
+use asked::Volts;
+use compare::question;
 
 const HELP: &str = "\
 compare/volts - the second model's table of volts against libtide.a
@@ -39,22 +34,5 @@ Exit status: 0 nothing differs, 1 something does, 2 wrong usage.
 ";
 
 fn main() {
-    trials::program::<Tried>("compare/volts", HELP, run);
-}
-
-/// The whole comparison. Answers the exit status.
-fn run(options: &Options, progress: &Progress) -> i32 {
-    let mut lent = Lent::new();
-    let mut tally = options.coverage.then(Tally::default);
-    let counted = trials::each(options, progress, |_, tried| {
-        let found = lent.volts(tried);
-        if let Some(tally) = &mut tally {
-            tally.note(tried, &found);
-        }
-        found.wrongs
-    });
-    if let Some(tally) = &tally {
-        tally.print();
-    }
-    trials::end(counted)
+    question::program::<Volts>("compare/volts", HELP);
 }

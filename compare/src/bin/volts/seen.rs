@@ -39,13 +39,7 @@ impl Seen {
         let mut seen = Seen::default();
         let mut memory = vec![0; memory];
         let mut record = [0; RECORD];
-        if bytes.first() != Some(&file::OPENING) {
-            return seen;
-        }
-        for place in file::places(bytes) {
-            let Some(event) = file::event(&bytes[place]) else {
-                break;
-            };
+        for event in file::events(bytes) {
             let (before, mut answer) = (record, [0; 4]);
             model::call(&mut record, &mut memory, &event, &mut answer);
             seen.note(&event, answer, &before, &record);

@@ -1,7 +1,9 @@
 //! Events for the volts: stretches of loads and clocks, each after a power-up,
 //! taken or not, an initialise, or nothing.
 
+use compare::bits::*;
 use compare::fields::*;
+use compare::power_ups::{self, DEEPEST};
 use compare::rng::Rng;
 
 /// What a stretch begins with.
@@ -14,13 +16,8 @@ enum Begin {
     Nothing,
 }
 
-/// BCR: offset binary, simultaneous mode, initialise.
-const BINARY_BIT: u32 = 1 << 4;
-const SIMULTANEOUS_BIT: u32 = 1 << 7;
-const INITIALISE_BIT: u32 = 1 << 15;
-/// BOR: size code 15 and clocking enabled; a circular buffer.
-const CLOCKS: u32 = 0x2F;
-const CIRCULAR_BIT: u32 = 1 << 8;
+/// BOR: size code 15 and clocking enabled.
+const CLOCKS: u32 = CODE_BITS | ENABLED_BIT;
 
 /// Where levels turn: the two's complement of each is another of them.
 const TURNS: [u32; 8] = [
@@ -42,8 +39,11 @@ pub fn events(rng: &mut Rng, power_ups: bool) -> Vec<Event> {
         };
         match begin {
             Begin::PowerUp => events.push(power_up(rng)),
-            Begin::Refused => events.push(refused(rng)),
-            Begin::Initialise => events.push(write(BCR, INITIALISE_BIT | rng.flag() << 4)),
+            Begin::Refused => {
+                let good = power_up(rng);
+                events.push(power_ups::refused(good, rng));
+            }
+            Begin::Initialise => events.push(write(BCR, INITIALISE | rng.flag() << 4)),
             Begin::Nothing => {}
         }
         set_up(rng, &mut events);
@@ -55,27 +55,8 @@ pub fn events(rng: &mut Rng, power_ups: bool) -> Vec<Event> {
 }
 
 fn power_up(rng: &mut Rng) -> Event {
-    let fitted = rng.pick(&[0, 0, 0, 1, 1, 2, 2, 11]);
-    let firmware = rng.below(4096);
-    [
-        POWER_UP,
-        fitted,
-        rng.below(3),
-        rng.below(3),
-        rng.below(3),
-        firmware,
-    ]
-}
-
-/// One setting is bad, or the memory would have to be longer than any is.
-fn refused(rng: &mut Rng) -> Event {
-    let mut event = power_up(rng);
-    let setting = rng.below(7) as usize;
-    match SETTINGS.get(setting) {
-        Some((_, most)) => event[1 + setting] = most + 1 + rng.below(2),
-        None => event[1] = 12 + rng.below(4),
-    }
-    event
+    let fitted = rng.pick(&[0, 0, 0, 1, 1, 2, 2, DEEPEST]);
+    power_ups::of(fitted, rng)
 }
 
 /// The mask, the coding and the mode, and the clocks: each mostly.
@@ -121,7 +102,7 @@ fn play(rng: &mut Rng, events: &mut Vec<Event>) {
             read(BOR),
             read(0x20),
             write(0x10, 0),
-            write(BOR, CLOCKS | 1 << 11),
+            write(BOR, CLOCKS | CLEAR),
             simple(OUTSIDE),
             simple(TRIGGER),
             simple(SETTLED),

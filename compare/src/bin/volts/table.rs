@@ -2,6 +2,7 @@
 //! them differ, and what holds of every one.
 
 use compare::guarded::Wrongs;
+use compare::question::Said;
 
 /// Lowest, highest and last of channel 0, then of channel 1, and so on.
 pub const NUMBERS: usize = 60;
@@ -20,15 +21,23 @@ impl Table {
     }
 
     /// The numbers that differ: which, this one's, the other's.
-    pub fn differing(&self, other: &Table) -> Vec<(String, f32, f32)> {
+    fn differing(&self, other: &Table) -> Vec<(String, f32, f32)> {
         let both = self.numbers.iter().zip(&other.numbers).enumerate();
         both.filter(|(_, (a, b))| a.to_bits() != b.to_bits())
             .map(|(i, (a, b))| (name(i), *a, *b))
             .collect()
     }
+}
 
-    /// What this one, the model's, and ours differ in.
-    pub fn compare(&self, ours: &Table, wrongs: &mut Wrongs) {
+/// The most numbers that are printed.
+const PRINTED: usize = 12;
+
+impl Said for Table {
+    fn refusal(&self) -> u32 {
+        self.refusal
+    }
+
+    fn compare(&self, ours: &Table, wrongs: &mut Wrongs) {
         if self.refusal != ours.refusal {
             wrongs.push(format!("refusal {}/{}", self.refusal, ours.refusal));
         }
@@ -41,8 +50,7 @@ impl Table {
         }
     }
 
-    /// What holds of every table, whatever the session and the model.
-    pub fn laws(&self, wrongs: &mut Wrongs) {
+    fn laws(&self, _untouched: bool, wrongs: &mut Wrongs) {
         let mut law = |holds: bool, text: &str| {
             if !holds {
                 wrongs.push(text.to_string());
@@ -69,6 +77,26 @@ impl Table {
         };
         law(self.channels().all(order), "ours is out of order");
     }
+
+    /// The refusals, and the numbers that differ.
+    fn print(&self, ours: &Table) {
+        println!("      {:<20} {:<24} ours", "", "model");
+        let (left, right) = (self.refusal, ours.refusal);
+        println!("      {:<20} {left:<24} {right}", "refusal");
+        let differing = self.differing(ours);
+        for (name, model, ours) in differing.iter().take(PRINTED) {
+            println!("      {name:<20} {:<24} {}", volts(*model), volts(*ours));
+        }
+        let more = differing.len().saturating_sub(PRINTED);
+        if more > 0 {
+            println!("      and {more} more numbers differ");
+        }
+    }
+}
+
+/// A number with its bits.
+fn volts(number: f32) -> String {
+    format!("{number} ({:08X}h)", number.to_bits())
 }
 
 fn name(number: usize) -> String {
@@ -85,7 +113,7 @@ mod tests {
         let mut numbers = [0.0; NUMBERS];
         numbers[..3].copy_from_slice(&three);
         let mut wrongs = Vec::new();
-        Table { refusal, numbers }.laws(&mut wrongs);
+        Table { refusal, numbers }.laws(false, &mut wrongs);
         wrongs.len()
     }
 

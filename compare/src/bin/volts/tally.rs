@@ -1,18 +1,14 @@
-//! `--coverage`: what sorts of session there were, and what was answered.
+//! `--coverage`: what happened in the sessions, and what was answered.
 
-use super::files::Sort;
-use super::lent::Found;
+use super::asked::Volts;
 use super::seen::Seen;
 use super::table::Table;
-use super::tried::{Tried, SHORT};
 use compare::counts::Counts;
-use compare::file::{LONGEST, MEMORY};
-use std::collections::BTreeMap;
+use compare::file::LONGEST;
+use compare::question::{self, Tried};
 
 #[derive(Default)]
 pub struct Tally {
-    sorts: BTreeMap<Sort, u64>,
-    memories: Counts,
     refusals: Counts,
     runs: Counts,
     tables: Counts,
@@ -21,30 +17,24 @@ pub struct Tally {
 /// The refusals that there are.
 const REFUSALS: [u32; 6] = [0, 10, 11, 12, 13, 18];
 
-impl Tally {
-    pub fn note(&mut self, tried: &Tried, found: &Found) {
-        *self.sorts.entry(tried.sort).or_default() += 1;
-        let Some(table) = &found.model else {
-            return;
-        };
-        let seen = Seen::new(&tried.bytes, tried.memory);
-        self.memory(tried.memory, found.junk);
+impl question::Tally<Volts> for Tally {
+    fn note(&mut self, tried: &Tried<Volts>, table: &Table) {
+        let seen = Seen::new(&tried.bytes, tried.memory.length);
         self.refusal(table.refusal, &seen, tried.bytes.len());
         self.run(table.refusal, &seen);
         self.table(table, &seen);
     }
 
-    fn memory(&mut self, memory: usize, junk: bool) {
-        let counts = &mut self.memories;
-        counts.begin();
-        for length in SHORT.into_iter().chain([MEMORY]) {
-            let name = format_args!("of length {length}");
-            counts.hit(name, memory == length);
-        }
-        counts.hit(format_args!("full of junk"), junk);
-        counts.hit(format_args!("as the last session left it"), !junk);
+    fn parts(&self) -> Vec<(&'static str, &Counts)> {
+        vec![
+            ("answers:", &self.refusals),
+            ("sessions with a table:", &self.runs),
+            ("tables:", &self.tables),
+        ]
     }
+}
 
+impl Tally {
     fn refusal(&mut self, refusal: u32, seen: &Seen, length: usize) {
         let counts = &mut self.refusals;
         counts.begin();
@@ -135,22 +125,6 @@ impl Tally {
                 let name = format_args!("range {range}, {volts} volts (level {level:04X}h)");
                 counts.hit(name, of && any(&|three| three.contains(&volts)));
             }
-        }
-    }
-
-    pub fn print(&self) {
-        println!("sessions:");
-        for (sort, number) in &self.sorts {
-            println!("  {number:9}  {}", sort.name());
-        }
-        for (head, counts) in [
-            ("memories:", &self.memories),
-            ("answers:", &self.refusals),
-            ("sessions with a table:", &self.runs),
-            ("tables:", &self.tables),
-        ] {
-            println!("{head}");
-            counts.print();
         }
     }
 }
