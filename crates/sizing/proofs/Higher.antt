@@ -1,7 +1,6 @@
 -- Two replays of a session, the second with a code that is no lower, over two memories of one length: demand 3 of them.
 use Prim.Native.Nat.{ℕ, zero, suc, _≤_}
 use mathlib.Core.Path.{_≡_, refl, sym, ap, _∙_, subst}
-use mathlib.Core.Logic.{_≢_}
 use mathlib.Core.Bool.{true, false, not, cond, false≢true}
 use mathlib.Core.List.{List, [], _∷_}
 use native.Mathlib.Nat.{le-refl}
@@ -56,7 +55,7 @@ all-alike j k (suc n) (e ∷ es) s s′ q = (
 
 -- ---- Demand 3 of the two replays
 
-pub lost-before : (n : ℕ) (s : State) (es : List Event) → NothingLost s es → NothingLost s (take n es)
+lost-before : (n : ℕ) (s : State) (es : List Event) → NothingLost s es → NothingLost s (take n es)
 unfolding NothingLost
 lost-before zero s es h = tt
 lost-before (suc n) s [] h = tt

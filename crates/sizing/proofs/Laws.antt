@@ -9,7 +9,7 @@ use borrow.Author.Tests.{ltb-true, ltb-false}
 use lib.Dec.{ltb}
 use lib.ListN.{length}
 use Rattle.files.specs.File.{session, faultNumber}
-use Rattle.sizing.specs.Smallest.{replays, sizeRefusal, sizeCode}
+use Rattle.sizing.specs.Smallest.{replays, codes, sizeRefusal, sizeCode}
 use Rattle.sizing.specs.Theorems.{Plays, Loses}
 use Rattle.sizing.specs.Laws.{SizeGiven, badFile, noSize, smallest, Size-exactly, Memory-left}
 use Rattle.sizing.proofs.Sizes.{size-cases, not-both-ends, one-fault, codeFound, found-plays, lower-loses, none-found}
@@ -25,7 +25,7 @@ some-given s m =
     (λ e h. noSize e (none-found s m h))
 
 -- a code that plays, with no lower one that does, is the one found
-the-found : (s m : List ℕ) (k : ℕ) → codeFound s m < 16 → Plays s (length m) k → ((j : ℕ) → j < k → Loses s (length m) j) → codeFound s m ≡ k
+the-found : (s m : List ℕ) (k : ℕ) → codeFound s m < codes → Plays s (length m) k → ((j : ℕ) → j < k → Loses s (length m) j) → codeFound s m ≡ k
 the-found s m k l plays loses = go (ltb (codeFound s m) k) refl (ℕ-discrete (codeFound s m) k)
   where
     go : (t : Bool) → ltb (codeFound s m) k ≡ t → Dec (codeFound s m ≡ k) → codeFound s m ≡ k

@@ -51,7 +51,8 @@ size-cases P s m bad some none = go ((session s) .end) refl
     go (Refused Length p) h = bad Length p h
     go (Refused Kind p) h = bad Kind p h
 
--- a file that ends with its last byte is not refused
+-- ---- A file ends in one way
+
 abbrev faultIn : Fault → End → Fault
 faultIn d File = d
 faultIn d (Refused why p) = why

@@ -16,7 +16,7 @@ use Rattle.sizing.specs.Smallest.{replays, lowest, replayed}
 abbrev pub fit : ℕ → Event
 fit d = up d 0 0 2 0
 
--- so many events, by number numbered 1 on
+-- so many events, each made of a number, from v on
 unfoldable pub numbered : ℕ → ℕ → (ℕ → Event) → List Event
 numbered v zero e = []
 numbered v (suc n) e = e v ∷ numbered (v + 1) n e

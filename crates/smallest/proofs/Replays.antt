@@ -1,7 +1,7 @@
 -- The loop of one replay: it is on its way with the state that it holds, and knows whether nothing was lost so far.
 use Prim.Native.Nat.{ℕ}
 use mathlib.Core.Path.{_≡_, refl, sym, ap, subst, _∙_}
-use mathlib.Core.Bool.{Bool, true, false, not, _&&_}
+use mathlib.Core.Bool.{Bool, true, not, _&&_, and-assoc}
 use mathlib.Core.List.{List, []}
 use lib.Dec.{eqb}
 use lib.ListN.{length}
@@ -11,6 +11,7 @@ use Rattle.rules.specs.declared.Answer.{Answer}
 use Rattle.rules.specs.Record.{State, stateOf, unpowered}
 use Rattle.rules.specs.Step.{Outcome, step}
 use Rattle.rules.specs.Session.{after}
+use Rattle.rules.proofs.Choice.{and-true}
 use Rattle.files.specs.declared.End.{End}
 use Rattle.files.specs.File.{Session}
 use Rattle.board.specs.declared.Reply.{Reply}
@@ -40,23 +41,15 @@ module _ (k : ℕ) where
       let r : Outcome = step (a .state) (sized k e) in
       record { state = r .state; whole = a .whole && not (eqb (r .answer .fate) 2) }
 
-  and-then : (x y z : Bool) → (x && y) && z ≡ x && (y && z)
-  and-then true y z = refl
-  and-then false y z = refl
-
   -- an event that is played
   played : (a : Replay) (e : Event) → Passes Comes a e (onward a e)
   unfolding after losesNothing sizedAll
-  played a e o x g = record { state = g .state; whole = g .whole ∙ and-then (a .whole) _ _ }
-
-  and-all : (x : Bool) → x ≡ x && true
-  and-all true = refl
-  and-all false = refl
+  played a e o x g = record { state = g .state; whole = g .whole ∙ and-assoc (a .whole) _ _ }
 
   -- and the end of the file
   ended : (a : Replay) (x : End) → Comes a a (record { events = []; end = x })
   unfolding after losesNothing sizedAll
-  ended a x = record { state = refl; whole = and-all (a .whole) }
+  ended a x = record { state = refl; whole = sym (and-true (a .whole)) }
 
   -- ---- The loop
 
