@@ -11,10 +11,11 @@ use Rattle.rules.specs.declared.Event.{Event}
 use Rattle.rules.specs.declared.Event.the-variants.{PowerUp as powerUp, Write as write, Read as read, Signal as signal}
 use Rattle.rules.specs.Record.{State}
 use Rattle.rules.specs.Step.{step}
-use Rattle.demand3.specs.Demand3.{NeverLower, same, deeper, larger, AllNeverLower, none, next, PowerUpAccepted, PowerUpsAccepted, NothingLost, NoQuarter, NoQuarters, PowerUpsAlike}
+use Rattle.demand3.specs.Demand3.{NeverLower, same, deeper, larger, AllNeverLower, none, next, PowerUpAccepted, PowerUpsAccepted, NothingLost, losesNothing, NoQuarter, NoQuarters, PowerUpsAlike}
 use Rattle.demand3.specs.Examples.{settings, firstRun, secondRun, firstStart, secondStart, Demand3-met, emptying, Request-met, refusing, Refused-met, again, Alike-matters, tooSmall, largeEnough, Loss-matters, Quarter-matters}
 use Rattle.rules.proofs.Choice.{and-both}
 use Rattle.rules.proofs.Open.{rules-open}
+use Rattle.demand3.proofs.Lossless.{lossless-test}
 
 -- ---- The premises as tests
 
@@ -42,16 +43,8 @@ accepted-all s (e ∷ es) h =
     let t = and-both (unstopped e ((step s e) .answer .refusal)) (allAccepted ((step s e) .state) es) h in
     (accepted-one s e (t .0), accepted-all ((step s e) .state) es (t .1))
 
-noneLost : State → List Event → Bool
-noneLost s [] = true
-noneLost s (e ∷ es) = not (eqb ((step s e) .answer .fate) 2) && noneLost ((step s e) .state) es
-
-lossless-all : (s : State) (es : List Event) → noneLost s es ≡ true → NothingLost s es
-unfolding noneLost NothingLost
-lossless-all s [] h = tt
-lossless-all s (e ∷ es) h =
-    let t = and-both (not (eqb ((step s e) .answer .fate) 2)) (noneLost ((step s e) .state) es) h in
-    (eqb-false _ _ (not-true _ (t .0)), lossless-all ((step s e) .state) es (t .1))
+lossless-all : (s : State) (es : List Event) → losesNothing s es ≡ true → NothingLost s es
+lossless-all s es = lossless-test s es .0
 
 unselected : State → Bool
 unselected s = not (eqb (s .board .core .control .selection) 3) && not (eqb (s .board .core .control .selection) 4)
@@ -89,7 +82,7 @@ sames (e ∷ es) = next (same e) (sames es)
 -- ---- The examples
 
 pub demand3-met : Demand3-met
-unfolding allAccepted unstopped noneLost noneSelected unselected rules-open
+unfolding allAccepted unstopped losesNothing noneSelected unselected rules-open
 demand3-met =
     record {
       lower = deeper _ 3 (omega arith) ▸ one ▸ larger 0x21 0x2F refl (omega arith)
@@ -109,7 +102,7 @@ demand3-met =
     }
 
 pub request-met : Request-met
-unfolding allAccepted unstopped noneLost noneSelected unselected rules-open
+unfolding allAccepted unstopped losesNothing noneSelected unselected rules-open
 request-met =
     record {
       lower = deeper (settings 1) 3 (omega arith) ▸ sames _;
@@ -124,7 +117,7 @@ request-met =
     }
 
 pub refused-met : Refused-met
-unfolding noneLost PowerUpsAlike rules-open
+unfolding losesNothing PowerUpsAlike rules-open
 refused-met =
     record {
       lower = deeper (settings 1) 3 (omega arith) ▸ sames _;
@@ -135,7 +128,7 @@ refused-met =
     }
 
 pub alike-matters : Alike-matters
-unfolding noneLost rules-open
+unfolding losesNothing rules-open
 alike-matters =
     record {
       lower = one ▸ one ▸ deeper (settings 1) 9 (omega arith) ▸ none;
@@ -154,7 +147,7 @@ loss-matters =
     }
 
 pub quarter-matters : Quarter-matters
-unfolding allAccepted unstopped noneLost rules-open
+unfolding allAccepted unstopped losesNothing rules-open
 quarter-matters =
     record {
       low = record {

@@ -6,8 +6,10 @@
 -- The runs are those of Session.antt. The two memories are any two, of any length and content.
 use Prim.Native.Nat.{ℕ, _/_, _%_, _≤_}
 use mathlib.Core.Path.{_≡_}
-use mathlib.Core.Logic.{_≢_}
+use mathlib.Core.Logic.{_≢_, _↔_}
+use mathlib.Core.Bool.{Bool, true, not, _&&_}
 use mathlib.Core.List.{List, [], _∷_}
+use lib.Dec.{eqb}
 use lib.ListN.{take}
 use Rattle.rules.specs.declared.Settings.{Settings}
 use Rattle.rules.specs.declared.Event.{Event}
@@ -49,6 +51,14 @@ PowerUpsAccepted s (e ∷ es) = PowerUpAccepted e (step s e) × PowerUpsAccepted
 unfoldable pub NothingLost : State → List Event → Type 0
 NothingLost s [] = Unit {0}
 NothingLost s (e ∷ es) = ((step s e) .answer .fate ≢ 2) × NothingLost ((step s e) .state) es
+
+-- the same as a test
+unfoldable pub losesNothing : State → List Event → Bool
+losesNothing s [] = true
+losesNothing s (e ∷ es) = not (eqb ((step s e) .answer .fate) 2) && losesNothing ((step s e) .state) es
+
+abbrev pub Lossless-test : Type 0
+Lossless-test = (s : State) (es : List Event) → (losesNothing s es ≡ true) ↔ NothingLost s es
 
 -- ---- "neither quarter-full interrupt is ever selected": in no state of the run, from its first to its last
 

@@ -4,7 +4,8 @@ use mathlib.Core.Bool.{true}
 use Rattle.rules.proofs.Open.{rules-open}
 use Rattle.rules.proofs.Bench.{alike, showing, all-true, cases-shown}
 use Rattle.sizing.specs.Coded.{sized, sizedAll}
-use Rattle.sizing.specs.Smallest.{losesNothing, replays, playsInTurn, lowestFrom, lowest}
+use Rattle.demand3.specs.Demand3.{losesNothing}
+use Rattle.sizing.specs.Smallest.{replays, playsInTurn, lowestFrom, lowest}
 use Rattle.sizing.specs.Examples.{numbered, codeNamed, memoryLeft, examples, Sizes-shown}
 
 examples-true : all-true examples ≡ true

@@ -1,10 +1,9 @@
 -- Two replays of a session, the second with a code that is no lower, over two memories of one length: demand 3 of them.
 use Prim.Native.Nat.{ℕ, zero, suc, _≤_}
 use mathlib.Core.Path.{_≡_, refl, sym, ap, _∙_, subst}
-use mathlib.Core.Bool.{true, false, not, cond, false≢true}
+use mathlib.Core.Bool.{true, false, cond, false≢true}
 use mathlib.Core.List.{List, [], _∷_}
 use native.Mathlib.Nat.{le-refl}
-use borrow.Author.Tests.{eqb-false, not-true, ne-eqb}
 use lib.Dec.{ltb, eqb}
 use lib.ListN.{length, take}
 use lib.Seq.{take-all}
@@ -13,14 +12,14 @@ use Rattle.rules.specs.Record.{State, depthOf, start}
 use Rattle.rules.specs.Refusals.{settingRefusal}
 use Rattle.rules.specs.Step.{step}
 use Rattle.rules.specs.Session.{after}
-use Rattle.rules.proofs.Choice.{and-both, both-and}
 use Rattle.rules.proofs.Steps.{refusal-answered}
 use Rattle.rules.proofs.Own.{power-up-own}
 use Rattle.laws.proofs.Memory.{memory-kept}
 use Rattle.demand3.specs.Demand3.{NothingLost, Agree, PowerUpAlike, PowerUpsAlike}
+use Rattle.demand3.proofs.Lossless.{lossless-test}
 use Rattle.demand3.proofs.Demand3.{demand3-alike}
 use Rattle.sizing.specs.Coded.{sized, sizedAll}
-use Rattle.sizing.specs.Smallest.{losesNothing, replays, playsInTurn}
+use Rattle.sizing.specs.Smallest.{replays, playsInTurn}
 use Rattle.sizing.proofs.Coded.{sized-length, all-never-lower}
 
 -- ---- Power-ups are answered alike
@@ -73,21 +72,6 @@ module _ (es : List Event) (m m′ : List ℕ) (same : length m ≡ length m′)
       subst (NothingLost (start m′)) (take-all (length es) (sizedAll k es) (subst (λ (n : ℕ). n ≤ length es) (sym (sized-length k es)) (le-refl (length es))))
       ((replays-agree h (length es)) .lossless)
 
--- ---- The test
-
-lossless-test : (s : State) (es : List Event) → losesNothing s es ≡ true → NothingLost s es
-unfolding losesNothing NothingLost
-lossless-test s [] h = tt
-lossless-test s (e ∷ es) h =
-    let t = and-both (not (eqb ((step s e) .answer .fate) 2)) (losesNothing ((step s e) .state) es) h in
-    (eqb-false _ 2 (not-true _ (t .0)), lossless-test ((step s e) .state) es (t .1))
-
-test-lossless : (s : State) (es : List Event) → NothingLost s es → losesNothing s es ≡ true
-unfolding losesNothing NothingLost
-test-lossless s [] h = refl
-test-lossless s (e ∷ es) h =
-    both-and _ _ (ap not (ne-eqb ((step s e) .answer .fate) 2 (h .0))) (test-lossless ((step s e) .state) es (h .1))
-
 -- ---- The turn of a code, over what the ones before left
 
 after-long : (s : State) (es : List Event) → length ((after s es) .memory) ≡ length (s .memory)
@@ -104,9 +88,9 @@ module _ (es : List Event) (m m′ : List ℕ) (k : ℕ) (same : length m′ ≡
   -- as it plays there, it plays over any memory of that length
   pub turn-plays : playsInTurn es m k ≡ true → NothingLost (start m′) (sizedAll k es)
   unfolding playsInTurn
-  turn-plays h = higher-plays es (replays es m k) m′ (replays-long es m k ∙ sym same) k k (le-refl k) within (lossless-test _ _ h)
+  turn-plays h = higher-plays es (replays es m k) m′ (replays-long es m k ∙ sym same) k k (le-refl k) within (lossless-test _ _ .0 h)
 
   pub turn-loses : playsInTurn es m k ≡ false → ¬ NothingLost (start m′) (sizedAll k es)
   unfolding playsInTurn
   turn-loses h l =
-      false≢true (sym h ∙ test-lossless _ _ (higher-plays es m′ (replays es m k) (same ∙ sym (replays-long es m k)) k k (le-refl k) within l))
+      false≢true (sym h ∙ lossless-test _ _ .1 (higher-plays es m′ (replays es m k) (same ∙ sym (replays-long es m k)) k k (le-refl k) within l))

@@ -15,9 +15,9 @@ use Rattle.files.specs.declared.End.the-variants.{File}
 use Rattle.files.specs.Bytes.{fileOf, AllFit, none, next}
 use Rattle.files.specs.File.{Session, session, verdict}
 use Rattle.files.proofs.Written.{file-read}
-use Rattle.demand3.specs.Demand3.{Alike}
 use Rattle.sizing.specs.Coded.{sized, sizedAll}
-use Rattle.sizing.specs.Smallest.{losesNothing, replays, playsInTurn, lowestFrom, codes, lowest, sizeRefusal, sizeCode}
+use Rattle.demand3.specs.Demand3.{losesNothing, Alike}
+use Rattle.sizing.specs.Smallest.{replays, playsInTurn, lowestFrom, codes, lowest, sizeRefusal, sizeCode}
 use Rattle.sizing.specs.Theorems.{eventsWith, Plays}
 use Rattle.sizing.specs.Examples.{fit, numbered, loads, lent}
 use Rattle.sizing.specs.Instances.{seventeen, nine, other, Sizes-met}

@@ -3,22 +3,15 @@
 --   sizeCode s m      the code that is named
 --   sizeMemory s m    the sample memory as it is left
 use Prim.Native.Nat.{ℕ, zero, suc}
-use mathlib.Core.Bool.{Bool, true, not, _&&_, cond}
-use mathlib.Core.List.{List, [], _∷_}
+use mathlib.Core.Bool.{Bool, cond}
+use mathlib.Core.List.{List}
 use lib.Dec.{ltb, eqb}
 use Rattle.rules.specs.declared.Event.{Event}
-use Rattle.rules.specs.Record.{State, start}
-use Rattle.rules.specs.Step.{step}
+use Rattle.rules.specs.Record.{start}
 use Rattle.rules.specs.Session.{after}
 use Rattle.files.specs.File.{session, verdict}
+use Rattle.demand3.specs.Demand3.{losesNothing}
 use Rattle.sizing.specs.Coded.{sizedAll}
-
--- ---- One replay
-
--- "nothing is lost to a full buffer": fate 2. Fate 3, lost to a closed one, does not count.
-unfoldable pub losesNothing : State → List Event → Bool
-losesNothing s [] = true
-losesNothing s (e ∷ es) = not (eqb ((step s e) .answer .fate) 2) && losesNothing ((step s e) .state) es
 
 -- ---- One code after another
 
@@ -28,7 +21,8 @@ unfoldable pub replays : List Event → List ℕ → ℕ → List ℕ
 replays es m zero = m
 replays es m (suc k) = (after (start (replays es m k)) (sizedAll k es)) .memory
 
--- the code k, when its turn comes
+-- the code k, when its turn comes: "nothing is lost to a full buffer", fate 2. Fate 3, lost to a closed one, does not count. The test is
+-- that of demand 3.
 unfoldable pub playsInTurn : List Event → List ℕ → ℕ → Bool
 playsInTurn es m k = losesNothing (start (replays es m k)) (sizedAll k es)
 

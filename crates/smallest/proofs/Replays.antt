@@ -22,7 +22,7 @@ use Rattle.run.specs.Run.{found}
 use Rattle.run.specs.Way.{Way, Passes}
 use Rattle.run.proofs.Ways.{way-start, way-on, way-over}
 use Rattle.sizing.specs.Coded.{sized, sizedAll}
-use Rattle.sizing.specs.Smallest.{losesNothing}
+use Rattle.demand3.specs.Demand3.{losesNothing}
 use Rattle.smallest.specs.Replaying.{ReplayTold}
 
 -- ---- What comes of a session

@@ -13,7 +13,8 @@ use Rattle.rules.specs.Session.{after}
 use Rattle.rules.proofs.Choice.{cond-true, cond-false}
 use Rattle.files.specs.File.{session}
 use Rattle.sizing.specs.Coded.{sizedAll}
-use Rattle.sizing.specs.Smallest.{losesNothing, replays, playsInTurn, lowestFrom, codes, lowest, replayed}
+use Rattle.demand3.specs.Demand3.{losesNothing}
+use Rattle.sizing.specs.Smallest.{replays, playsInTurn, lowestFrom, codes, lowest, replayed}
 use Rattle.smallest.specs.Replaying.{ReplayTold, LowestTold}
 
 -- it stands before the code k with this memory; m is the memory at the start

@@ -8,7 +8,8 @@ use Rattle.rules.specs.Record.{start}
 use Rattle.rules.specs.Session.{after}
 use Rattle.files.specs.File.{session}
 use Rattle.sizing.specs.Coded.{sizedAll}
-use Rattle.sizing.specs.Smallest.{losesNothing, replays, codes, lowest, replayed}
+use Rattle.demand3.specs.Demand3.{losesNothing}
+use Rattle.sizing.specs.Smallest.{replays, codes, lowest, replayed}
 use Rattle.smallest.specs.declared.Smallest.{Smallest}
 
 -- the session file s with the code k, from the unpowered record over the memory m
