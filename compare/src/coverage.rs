@@ -644,6 +644,19 @@ impl Coverage {
                     || now && b[REQUEST] == 1 && a[REQUEST] == 0 && bit(11),
             );
         }
+        let fourth = same && b[SELECTION] == 4;
+        hit(
+            "request rises: 4 at exactly three quarters",
+            fourth && b[REQUEST] == 0 && a[REQUEST] == 1 && 4 * a[COUNT] == 3 * size(a),
+        );
+        hit(
+            "request falls: 4 from exactly three quarters",
+            fourth
+                && b[REQUEST] == 1
+                && a[REQUEST] == 0
+                && e[0] != WRITE
+                && 4 * b[COUNT] == 3 * size_b,
+        );
         hit(
             "selection changed by a write",
             bcr && b[SELECTION] != a[SELECTION],

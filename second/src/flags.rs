@@ -19,9 +19,9 @@ impl Record {
         4 * self.count < self.size()
     }
 
-    /// "high quarter at 4·count > 3·size"
+    /// "Amend 01: high quarter when 4·count is at least 3·size." (request 2026-06)
     pub(crate) fn high_quarter(&self) -> bool {
-        4 * self.count > 3 * self.size()
+        4 * self.count >= 3 * self.size()
     }
 
     /// "full at count ≥ size"

@@ -1,7 +1,7 @@
 //! A second, independent model of the output board, written from document 01
 //! ("Build outline: the output board and its exact rules") and, where 01 is
 //! silent, from the board's manual; of document 02 ("Further changes
-//! requested") it has requests 2026-01 to 2026-05. Of these 2026-04 changes no
+//! requested") it has requests 2026-01 to 2026-06. Of these 2026-04 changes no
 //! behaviour ("No answer changes."); the search in `clock.rs` is the one that it
 //! asks for. The model is written to be read beside the documents: each rule
 //! stands under a comment that quotes its sentence. DECISIONS.md lists the places

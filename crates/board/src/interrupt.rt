@@ -23,7 +23,7 @@ pub(crate) fn condition(b: Board) -> bool
         1 => c.calibration.calibrated,
         2 => n == 0,
         3 => 4 * n < size,
-        4 => 3 * size < 4 * n,
+        4 => 3 * size <= 4 * n,
         5 => c.control.bursts & !c.burst.running,
         6 => !closed(c),
         7 => closed(c),

@@ -68,7 +68,7 @@ pub(crate) fn read_buffer(b: Board) -> u32
     let code = b.size.code;
     let size = active_size(b.size);
     let low = 4 * n < size;
-    let high = 3 * size < 4 * n;
+    let high = 3 * size <= 4 * n;
     number_of([
         code % 2 == 1,
         code / 2 % 2 == 1,

@@ -136,5 +136,5 @@ pub record RequestsDiffer (n v : ℕ) : Type 0 where
 pub record Quarter-matters : Type 0 where
   -- D11 leaves the request set: at size 8 the second value clears it, at size 32 none of the seven does
   pub low : RequestsDiffer 3 0xB10
-  -- D11 clears the request: at size 8 the seventh value sets it, at size 32 none does
+  -- D11 clears the request: at size 8 the sixth value sets it, at size 32 none does
   pub high : RequestsDiffer 4 0x410

@@ -1,11 +1,11 @@
 -- What initialise and power-up leave.
 --   fresh o d m    the state that they leave, with the options o and the fitted code d over the memory m
-use Prim.Native.Nat.{ℕ, _+_, _*_, zero-le}
+use Prim.Native.Nat.{ℕ, _+_, _*_}
 use mathlib.Core.Path.{_≡_, refl, _∙_}
 use mathlib.Core.Bool.{true, false}
 use mathlib.Core.List.{List, append-assoc}
 use native.Mathlib.Omega.{arith}
-use borrow.Author.Tests.{lt-ltb, le-ltb, lt-leb}
+use borrow.Author.Tests.{lt-ltb, lt-leb}
 use Rattle.rules.specs.Types.{Settings, Options, Size, Board, powerUp, write}
 use Rattle.rules.specs.Bits.{bit, bitsOf, flag, number}
 use Rattle.rules.specs.Record.{State, activeSize, channels, values, stored}
@@ -32,7 +32,7 @@ low-empty : (z : Size) → isLow z 0 ≡ true
 low-empty z = lt-ltb _ _ (size-pos z)
 
 high-empty : (z : Size) → isHigh z 0 ≡ false
-high-empty z = le-ltb (3 * activeSize z) 0 zero-le
+high-empty z = lt-leb (3 * activeSize z) 0 (omega (arith, size-pos z))
 
 full-empty : (z : Size) → isFull z 0 ≡ false
 full-empty z = lt-leb _ _ (size-pos z)

@@ -5,7 +5,7 @@ use mathlib.Core.Logic.{_↔_}
 use mathlib.Core.Bool.{Bool, true, false, not, _&&_, _||_, true≢false, false≢true}
 use mathlib.Core.List.{List, [], _∷_}
 use native.Mathlib.Omega.{arith}
-use borrow.Author.Tests.{ltb-true, lt-ltb, eqb-true, eq-eqb, ne-eqb}
+use borrow.Author.Tests.{leb-true, ltb-true, le-leb, lt-ltb, eqb-true, eq-eqb, ne-eqb}
 use lib.Dec.{eqb}
 use lib.ListN.{length, getD}
 use Rattle.rules.specs.Types.{Board, Event, powerUp, write, read, signal}
@@ -34,7 +34,7 @@ module _ (s : State) where
   condition-to (suc zero) e h = calibrated e h
   condition-to (suc (suc zero)) e h = empty e (nil-length (stored s) (stored-length s ∙ eqb-true _ _ h))
   condition-to (suc (suc (suc zero))) e h = low e (rw stored-length (ltb-true _ _ h))
-  condition-to (suc (suc (suc (suc zero)))) e h = high e (rw stored-length (ltb-true _ _ h))
+  condition-to (suc (suc (suc (suc zero)))) e h = high e (rw stored-length (leb-true _ _ h))
   condition-to (suc (suc (suc (suc (suc zero))))) e h = let t = (burst-ready-exactly (s .board .core)) .0 h in burst e (t .0) (t .1)
   condition-to (suc (suc (suc (suc (suc (suc zero)))))) e h = loadReady e ((closed-not (s .board .core)) .0 (not-true _ (not-both _ h)))
   condition-to (suc (suc (suc (suc (suc (suc (suc zero))))))) e h = notLoadReady e ((closed-exactly (s .board .core)) .0 h)
@@ -45,7 +45,7 @@ module _ (s : State) where
   condition-from (calibrated e h) = rw e h
   condition-from (empty e h) = rw e (eq-eqb _ _ (sym (stored-length s) ∙ ap length h))
   condition-from (low e h) = rw e (lt-ltb (4 * s .board .ring .count) (activeSize (s .board .size)) (omega (arith, stored-length s)))
-  condition-from (high e h) = rw e (lt-ltb (3 * activeSize (s .board .size)) (4 * s .board .ring .count) (omega (arith, stored-length s)))
+  condition-from (high e h) = rw e (le-leb (3 * activeSize (s .board .size)) (4 * s .board .ring .count) (omega (arith, stored-length s)))
   condition-from (burst e h k) = rw e ((burst-ready-exactly (s .board .core)) .1 (h, k))
   condition-from (loadReady e h) = rw (e, (closed-not (s .board .core)) .1 h)
   condition-from (notLoadReady e h) = rw e ((closed-exactly (s .board .core)) .1 h)

@@ -115,13 +115,14 @@ pub record Case : Type 0 where
 
 unfoldable pub table : List Case
 table =
-    -- "size 8: low at 1, not 2; high at 7, not 6; full at 8, not 7", read after each of eight loads
+    -- "size 8: low at 1, not 2; .. full at 8, not 7", and 02, 2026-06: "At size 8 it rises at 6, not at 5"; read after each of eight
+    -- loads
     record {
       session = on ∷ bor 0x0
           ∷ load 1 ∷ bor? ∷ load 2 ∷ bor? ∷ load 3 ∷ bor? ∷ load 4 ∷ bor?
           ∷ load 5 ∷ bor? ∷ load 6 ∷ bor? ∷ load 7 ∷ bor? ∷ load 8 ∷ bor? ∷ [];
       sights = bitRead 13 shows (1 ∷ 0 ∷ 0 ∷ 0 ∷ 0 ∷ 0 ∷ 0 ∷ 0 ∷ [])
-          ∷ bitRead 14 shows (0 ∷ 0 ∷ 0 ∷ 0 ∷ 0 ∷ 0 ∷ 1 ∷ 1 ∷ [])
+          ∷ bitRead 14 shows (0 ∷ 0 ∷ 0 ∷ 0 ∷ 0 ∷ 1 ∷ 1 ∷ 1 ∷ [])
           ∷ bitRead 15 shows (0 ∷ 0 ∷ 0 ∷ 0 ∷ 0 ∷ 0 ∷ 0 ∷ 1 ∷ [])
           ∷ fates shows (1 ∷ 1 ∷ 1 ∷ 1 ∷ 1 ∷ 1 ∷ 1 ∷ 1 ∷ []) ∷ [];
     }

@@ -131,6 +131,13 @@ examples =
           ∷ up 1 2 2 2 4095 ∷ bcr? ∷ [];
       sights = refusals shows (1 ∷ 14 ∷ 15 ∷ 16 ∷ 17 ∷ 2 ∷ 0 ∷ 0 ∷ []) ∷ [];
     }
+    -- 02, 2026-06: "At size 8 it rises at 6, not at 5; 01's case and interrupt 4 follow": the request is set by the sixth value, stays
+    -- with the seventh and with the sixth again, and is cleared by the clock that leaves five
+    ∷ record {
+      session = on ∷ bor 0x20 ∷ bcr 0x410 ∷ load 1 ∷ load 2 ∷ load 3 ∷ load 4 ∷ load 5 ∷ bcr? ∷ load 6 ∷ bcr? ∷ load 7 ∷ bcr?
+          ∷ clk ∷ bcr? ∷ clk ∷ bcr? ∷ [];
+      sights = bitRead 11 shows (0 ∷ 1 ∷ 1 ∷ 1 ∷ 0 ∷ []) ∷ held shows (3 ∷ 4 ∷ 5 ∷ 6 ∷ 7 ∷ []) ∷ [];
+    }
     ∷ []
 
 -- ---- The theorem

@@ -13,9 +13,9 @@ isEmpty n = eqb n 0
 abbrev pub isLow : Size → ℕ → Bool
 isLow s n = ltb (4 * n) (activeSize s)
 
--- 01: "high quarter at 4·count > 3·size"
+-- 02, 2026-06: "high quarter when 4·count is at least 3·size"; it amends 01 (DECISIONS 117)
 abbrev pub isHigh : Size → ℕ → Bool
-isHigh s n = ltb (3 * activeSize s) (4 * n)
+isHigh s n = leb (3 * activeSize s) (4 * n)
 
 -- 01: "full at count ≥ size"
 abbrev pub isFull : Size → ℕ → Bool

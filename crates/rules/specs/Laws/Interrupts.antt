@@ -1,5 +1,5 @@
 -- The interrupt request after an event, by the selected condition before and after it.
-use Prim.Native.Nat.{ℕ, _*_, _<_}
+use Prim.Native.Nat.{ℕ, _*_, _≤_, _<_}
 use mathlib.Core.Path.{_≡_}
 use mathlib.Core.Logic.{_≢_, _↔_}
 use mathlib.Core.Bool.{Bool, true, false}
@@ -23,7 +23,7 @@ pub data Condition (s : State) : Type 0 where
   calibrated : selected s ≡ 1 → s .board .core .calibration .calibrated ≡ true → Condition s
   empty : selected s ≡ 2 → stored s ≡ [] → Condition s
   low : selected s ≡ 3 → 4 * length (stored s) < activeSize (s .board .size) → Condition s
-  high : selected s ≡ 4 → 3 * activeSize (s .board .size) < 4 * length (stored s) → Condition s
+  high : selected s ≡ 4 → 3 * activeSize (s .board .size) ≤ 4 * length (stored s) → Condition s
   burst : selected s ≡ 5 → s .board .core .control .bursts ≡ true → s .board .core .burst .running ≡ false → Condition s
   loadReady : selected s ≡ 6 → ¬ Closed (s .board .core) → Condition s
   notLoadReady : selected s ≡ 7 → Closed (s .board .core) → Condition s

@@ -55,10 +55,11 @@ pub record BufferRead (b : Board) : Type 0 where
   -- "D10 reads "not closed""
   pub d10 : (bit 10 (buffer b) ≡ true) ↔ (¬ Closed (b .core))
   pub d11 : bit 11 (buffer b) ≡ false
-  -- "empty at count 0; low quarter at 4·count < size; high quarter at 4·count > 3·size; full at count ≥ size"
+  -- "empty at count 0; low quarter at 4·count < size; .. full at count ≥ size"; 02, 2026-06: "high quarter when 4·count is at least
+  -- 3·size"
   pub d12 : (bit 12 (buffer b) ≡ true) ↔ (b .ring .count ≡ 0)
   pub d13 : (bit 13 (buffer b) ≡ true) ↔ (4 * b .ring .count < activeSize (b .size))
-  pub d14 : (bit 14 (buffer b) ≡ true) ↔ (3 * activeSize (b .size) < 4 * b .ring .count)
+  pub d14 : (bit 14 (buffer b) ≡ true) ↔ (3 * activeSize (b .size) ≤ 4 * b .ring .count)
   pub d15 : (bit 15 (buffer b) ≡ true) ↔ (activeSize (b .size) ≤ b .ring .count)
   pub d16 : bit 16 (buffer b) ≡ b .core .lost .full
   pub d17 : bit 17 (buffer b) ≡ b .core .lost .closed
