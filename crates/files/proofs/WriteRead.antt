@@ -6,11 +6,12 @@ use native.Mathlib.Omega.{arith}
 use borrow.Author.Tests.{eq-eqb, ne-eqb}
 use lib.ListN.{length, take, drop, length-append}
 use lib.Seq.{sets, sets-eq, slice, length-take-le, take-at, drop-at}
+use Rattle.rules.specs.declared.Event.{Event}
 use Rattle.rules.proofs.Choice.{cond-true, cond-false}
 use Rattle.files.specs.File.{session}
 use Rattle.files.specs.Bytes.{fileOf, AllFit}
 use Rattle.files.specs.Writing.{eventsIn, rowsOf, writeRefusal, endPlace, outputAfter}
-use Rattle.files.specs.WritingLaws.{done, Write-refused, Write-read, Write-back}
+use Rattle.files.specs.WritingLaws.{done, Reread, Write-refused, Write-read, Write-back}
 use Rattle.files.proofs.Written.{file-read}
 use Rattle.files.proofs.Rewritten.{file-written, events-fit}
 use Rattle.files.proofs.WritesGiven.{write-exactly, rows-events, good-call}
@@ -55,6 +56,22 @@ module _ (out : List ℕ) (place : ℕ) (file : List ℕ) (room : place + length
   behind : drop (place + length file) o ≡ drop (place + length file) out
   behind = ap (drop (place + length file)) parted ∙ drop-at head _ _ head-long
 
+-- the file of events whose fields fit: its bytes are there, and read they give the events
+module _ (es : List Event) (out : List ℕ) (place : ℕ) (room : place + length (fileOf es) ≤ length out) where
+  pub file-stands : slice place (place + length (fileOf es)) (sets out place (fileOf es)) ≡ fileOf es
+  unfolding o
+  file-stands = stands out place (fileOf es) room
+
+  pub file-reread : AllFit es → Reread es out place (place + length (fileOf es)) (sets out place (fileOf es))
+  unfolding o
+  file-reread fits =
+      record {
+        within = room;
+        read = ap session file-stands ∙ file-read es fits;
+        before = before out place (fileOf es) room;
+        behind = behind out place (fileOf es) room;
+      }
+
 -- ---- What a call that is not refused leaves
 
 module _ (xs out : List ℕ) (place : ℕ) (z : writeRefusal xs (length out) place ≡ 0) where
@@ -67,19 +84,12 @@ module _ (xs out : List ℕ) (place : ℕ) (z : writeRefusal xs (length out) pla
   call-leaves = cond-true _ _ _ (eq-eqb _ 0 z)
 
 pub write-read : Write-read
-unfolding o
 write-read xs out place z =
     let g = good-call xs (length out) place z in
-    let file : List ℕ = fileOf (eventsIn xs) in
-    let end = call-ends xs out place z in
-    let left = call-leaves xs out place z in
-    let fits : AllFit (eventsIn xs) = subst AllFit (sym (g .events)) (g .fits) in
-    record {
-      within = omega (arith, end, g .room);
-      read = (λ i. session (slice place (end i) (left i))) ∙ ap session (stands out place file (g .room)) ∙ file-read (eventsIn xs) fits;
-      before = ap (take place) left ∙ before out place file (g .room);
-      behind = (λ i. drop (end i) (left i)) ∙ behind out place file (g .room) ∙ (λ i. drop (sym end i) out);
-    }
+    let es : List Event = eventsIn xs in
+    let fits : AllFit es = subst AllFit (sym (g .events)) (g .fits) in
+    subst (λ (end : ℕ). Reread es out place end (outputAfter xs out place)) (sym (call-ends xs out place z))
+    (subst (Reread es out place (place + length (fileOf es))) (sym (call-leaves xs out place z)) (file-reread es out place (g .room) fits))
 
 pub write-back : Write-back
 unfolding o session

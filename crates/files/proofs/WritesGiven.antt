@@ -130,7 +130,7 @@ module _ (es : List Event) where
       ∙ behind-good es h [] (length (rowsOf es) / 6) 0 (omega (arith, count))
 
 -- by the first bad row of a slice of whole ones, and by place and length
-pub decided : ℕ → ℕ → ℕ → ℕ → ℕ
+unfoldable pub decided : ℕ → ℕ → ℕ → ℕ → ℕ
 decided m n place long = firstOf (m when not (eqb m 0) ∷ 20 when ltb n place ∷ 21 when ltb n (place + long) ∷ [])
 
 pub whole-decided : (xs : List ℕ) (n place : ℕ) → length xs % 6 ≡ 0

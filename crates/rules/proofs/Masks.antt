@@ -34,7 +34,7 @@ bit-suc k v = ap (λ (x : ℕ). bit x v) (sym (one-add k)) ∙ bit-shift 1 k v
 
 -- ---- A number without bits is 0
 
-below-pow : (n : ℕ) → n < 2 ^ n
+pub below-pow : (n : ℕ) → n < 2 ^ n
 below-pow zero = omega arith
 below-pow (suc n) = omega (arith, below-pow n, pow-suc 2 n)
 

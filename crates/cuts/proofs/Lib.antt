@@ -1,0 +1,11 @@
+-- The laws and theorems of specs/; each file opens with what it shows.
+pub mod Lists
+pub mod Numbers
+pub mod Given
+pub mod Passing
+pub mod Loading
+pub mod Ready
+pub mod Ticks
+pub mod Order
+pub mod Plays
+pub mod Shipped

@@ -1,0 +1,109 @@
+-- The chosen channels and the chosen numbers, place by place (specs/Laws, Numbers-told).
+use Prim.Native.Nat.{ℕ, zero, suc, _+_, _*_, _^_, _≤_, _<_, zero-le}
+use mathlib.Core.Path.{_≡_, refl, sym, ap, _∙_}
+use mathlib.Core.Bool.{true}
+use mathlib.Core.List.{List, [], _∷_, _++_, map}
+use native.Mathlib.Nat.{div-one, suc-mul}
+use native.Mathlib.Omega.{arith}
+use lib.Count.{ones}
+use lib.ListN.{length, getD, length-append, length-map, List·getD-append}
+use lib.Seq.{getD-append-add}
+use Rattle.rules.specs.Bits.{bit}
+use Rattle.rules.proofs.Masks.{below-bits}
+use Rattle.laws.specs.Moved.{ActiveAscending}
+use Rattle.laws.proofs.Actives.{active-to, active-from, active-ascending, active-ones}
+use Rattle.cuts.specs.Cut.{Cut, sample, chosen, numbersFrom, groups, numbers}
+use Rattle.cuts.specs.Laws.{Grouped, GoodChoice, NumbersTold, Numbers-told, Sixteen}
+use Rattle.cuts.proofs.Lists.{map-at}
+
+-- ---- The channels
+
+module _ (q : Cut) (n : ℕ) (g : Grouped q n) (c : GoodChoice q n) where
+  chosen-below : (k : ℕ) → bit k (q .mask) ≡ true → k < 20
+  chosen-below k t = omega (arith, c .inside k t, g .most)
+
+  pub mask-small : q .mask < 2 ^ 20
+  mask-small = below-bits 20 (q .mask) chosen-below
+
+  pub chosen-ones : length (chosen q) ≡ ones (q .mask)
+  chosen-ones = let e = div-one (q .mask) in active-ones 20 0 (q .mask) (rw e mask-small) ∙ ap ones e
+
+  pub chosen-channels : ActiveAscending (q .mask) (chosen q)
+  chosen-channels =
+      record {
+        active = λ k. (λ h. (active-to 20 0 (q .mask) k h) .0, λ t. active-from 20 0 (q .mask) k zero-le (chosen-below k t) t);
+        ascending = active-ascending 20 0 (q .mask);
+        asManyAsOnes = chosen-ones;
+      }
+
+-- ---- The numbers
+
+module _ (q : Cut) where
+  abbrev c : ℕ
+  c = length (chosen q)
+
+  from-long : (j n : ℕ) → length (numbersFrom q j n) ≡ n * c
+  unfolding numbersFrom
+  from-long j zero = omega arith
+  from-long j (suc n) =
+      length-append (map (sample q j) (chosen q)) (numbersFrom q (suc j) n)
+      ∙ omega (arith, length-map (chosen q) (sample q j), from-long (suc j) n, suc-mul n c)
+
+  pub numbers-long : length (numbers q) ≡ groups q * c
+  unfolding numbers
+  numbers-long = from-long (q .first) (groups q)
+
+  from-at : (a n j i : ℕ) → j < n → i < c → getD (numbersFrom q a n) (j * c + i) 0 ≡ sample q (a + j) (getD (chosen q) i 0)
+  unfolding numbersFrom
+  from-at a zero j i l k = absurd (omega arith)
+  from-at a (suc n) zero i l k =
+      let group : List ℕ = map (sample q a) (chosen q) in
+      let e : 0 * c + i ≡ i = omega arith in
+      let z : a ≡ a + 0 = omega arith in
+      let inside : i < length group = omega (arith, length-map (chosen q) (sample q a)) in
+      ap (λ (x : ℕ). getD (group ++ numbersFrom q (suc a) n) x 0) e
+      ∙ List·getD-append group (numbersFrom q (suc a) n) 0 i inside
+      ∙ map-at (sample q a) (chosen q) i 0 k
+      ∙ ap (λ (x : ℕ). sample q x (getD (chosen q) i 0)) z
+  from-at a (suc n) (suc j) i l k =
+      let group : List ℕ = map (sample q a) (chosen q) in
+      let s : suc a + j ≡ a + suc j = omega arith in
+      let e : suc j * c + i ≡ length group + (j * c + i) = omega (arith, length-map (chosen q) (sample q a), suc-mul j c) in
+      ap (λ (x : ℕ). getD (group ++ numbersFrom q (suc a) n) x 0) e
+      ∙ getD-append-add group (numbersFrom q (suc a) n) (j * c + i) 0
+      ∙ from-at (suc a) n j i (omega arith) k
+      ∙ ap (λ (x : ℕ). sample q x (getD (chosen q) i 0)) s
+
+  pub numbers-at : (j i : ℕ) → j < groups q → i < c → getD (numbers q) (j * c + i) 0 ≡ sample q (q .first + j) (getD (chosen q) i 0)
+  unfolding numbers
+  numbers-at j i = from-at (q .first) (groups q) j i
+
+-- ---- Their size
+
+-- each is a number of the recording
+numbers-small-from : (q : Cut) → Sixteen (q .recording) → (a n i : ℕ) → getD (numbersFrom q a n) i 0 < 0x10000
+unfolding numbersFrom sample
+numbers-small-from q f a zero i = omega arith
+numbers-small-from q f a (suc n) i = joined (numbers-small-from q f (suc a) n) (chosen q) i
+  where
+    joined : ((i : ℕ) → getD (numbersFrom q (suc a) n) i 0 < 0x10000) → (ks : List ℕ) (i : ℕ)
+        → getD (map (sample q a) ks ++ numbersFrom q (suc a) n) i 0 < 0x10000
+    joined later [] i = later i
+    joined later (k ∷ ks) zero = f _
+    joined later (k ∷ ks) (suc i) = joined later ks i
+
+pub numbers-small : (q : Cut) → Sixteen (q .recording) → (i : ℕ) → getD (numbers q) i 0 < 0x10000
+unfolding numbers
+numbers-small q f i = numbers-small-from q f (q .first) (groups q) i
+
+pub numbers-told : Numbers-told
+unfolding sample groups
+numbers-told q n g c =
+    let e = chosen-ones q n g c in
+    record {
+      channels = chosen-channels q n g c;
+      groups-cut = omega (arith, c .forward);
+      long = numbers-long q ∙ ap (λ (x : ℕ). groups q * x) e;
+      there = λ j i l k.
+          ap (λ (x : ℕ). getD (numbers q) (j * x + i) 0) (sym e) ∙ numbers-at q j i l (omega (arith, e));
+    }

@@ -1,0 +1,124 @@
+-- What is written is read, and what is shipped plays (specs/Laws, Cut-read; specs/Plays, Shipped-plays).
+use Prim.Native.Nat.{ℕ, zero, suc, _+_, _^_, _≤_, _<_}
+use mathlib.Core.Path.{_≡_, refl, sym, ap, subst, _∙_}
+use mathlib.Core.List.{List, [], _∷_, _++_, map, append-assoc}
+use native.Mathlib.Omega.{arith}
+use lib.ListN.{length, getD, drop}
+use lib.Seq.{slice, slice-cons, length-sets}
+use Rattle.rules.specs.declared.Settings.{Settings}
+use Rattle.rules.specs.declared.Event.{Event}
+use Rattle.rules.specs.declared.Event.the-variants.{PowerUp as powerUp, Write as write}
+use Rattle.rules.specs.Record.{State, valueSpan, start}
+use Rattle.rules.specs.Refusals.{refusal}
+use Rattle.rules.specs.Session.{after}
+use Rattle.rules.proofs.Refusals.{power-up-accepted}
+use Rattle.files.specs.declared.End.the-variants.{File}
+use Rattle.files.specs.File.{Session, session}
+use Rattle.files.specs.Bytes.{bytesOf, recordsOf, fileOf, Fits, AllFit, none, next}
+use Rattle.files.specs.WritingLaws.{Reread}
+use Rattle.files.proofs.Written.{file-read}
+use Rattle.files.proofs.WriteRead.{file-stands, file-reread}
+use Rattle.cuts.specs.Cut.{Cut, numbers, eofOnLast, events, cutRefusal, cutEnd, cutOutput}
+use Rattle.cuts.specs.Laws.{Sixteen, Cut-read}
+use Rattle.cuts.specs.Plays.{Equipped, Ordered, powered, Playable, EitherOrder, controlFirst, bufferFirst, ticks, OnItsOutput, shipped, cutBytes, Shipped-plays}
+use Rattle.cuts.proofs.Numbers.{mask-small, numbers-small}
+use Rattle.cuts.proofs.Given.{GoodCut, good-cut, cut-ends, cut-leaves}
+use Rattle.cuts.proofs.Loading.{marked-small}
+use Rattle.cuts.proofs.Plays.{same-boards, channel-plays}
+
+-- ---- Fields that fit
+
+write-fits : (o v : ℕ) (es : List Event) → o < 256 → v < 2 ^ 32 → AllFit es → AllFit (write o v ∷ es)
+write-fits o v es a b h = next {e = write o v} (a, b) h
+
+loads-fit : (ws : List ℕ) → ((i : ℕ) → getD ws i 0 < valueSpan) → AllFit (map (write 0x18) ws)
+loads-fit [] f = none
+loads-fit (w ∷ ws) f = write-fits 0x18 w _ (omega arith) (omega (arith, f 0)) (loads-fit ws (λ i. f (suc i)))
+
+both-fit : (es fs : List Event) → AllFit es → AllFit fs → AllFit (es ++ fs)
+both-fit [] fs none h = h
+both-fit (e ∷ es) fs (next f g) h = next f (both-fit es fs g h)
+
+ticks-fit : (n : ℕ) → AllFit (ticks n)
+ticks-fit zero = none
+ticks-fit (suc n) = next tt (ticks-fit n)
+
+two-fit : (v w : ℕ) (two : List Event) → v < 2 ^ 32 → w < 2 ^ 32 → EitherOrder v w two → AllFit two
+two-fit v w _ a b controlFirst = write-fits 0x00 v _ (omega arith) a (write-fits 0x0C w [] (omega arith) b none)
+two-fit v w _ a b bufferFirst = write-fits 0x0C w _ (omega arith) b (write-fits 0x00 v [] (omega arith) a none)
+
+power-up-fits : (s : State) (x : Settings) → refusal s (powerUp x) ≡ 0 → Fits (powerUp x)
+power-up-fits s x z =
+    let r = (power-up-accepted s x z) .0 in
+    (omega (arith, r .fitted), omega (arith, r .range), omega (arith, r .filter), omega (arith, r .kit), omega (arith, r .firmware))
+
+module _ (q : Cut) (sixteen : Sixteen (q .recording)) (n place : ℕ) (g : GoodCut q n place) where
+  cut-fits : AllFit (events q)
+  unfolding events
+  cut-fits =
+      write-fits 0x04 (q .mask) _ (omega arith) (omega (arith, mask-small q (g .count) (g .grouped) (g .choice)))
+      (loads-fit (eofOnLast (numbers q)) (marked-small (numbers q) (numbers-small q sixteen)))
+
+  ordered : Ordered q
+  ordered = record { count = g .count; grouped = g .grouped; choice = g .choice; sixteen = sixteen }
+
+pub cut-read : Cut-read
+cut-read q out place sixteen z =
+    let g = good-cut q (length out) place z in
+    subst (λ (end : ℕ). Reread (events q) out place end (cutOutput q out place)) (sym (cut-ends q out place z))
+    (subst (Reread (events q) out place (place + length (fileOf (events q)))) (sym (cut-leaves q out place z))
+    (file-reread (events q) out place (g .room) (cut-fits q sixteen _ _ g)))
+
+-- ---- The file that is shipped
+
+records-append : (es fs : List Event) → recordsOf (es ++ fs) ≡ recordsOf es ++ recordsOf fs
+unfolding recordsOf
+records-append [] fs = refl
+records-append (e ∷ es) fs = ap (λ (r : List ℕ). bytesOf e ++ r) (records-append es fs) ∙ sym (append-assoc (bytesOf e) (recordsOf es) (recordsOf fs))
+
+-- the cutter's bytes from its second on are the records of its events
+cut-records : (q : Cut) (out : List ℕ) (place : ℕ) → cutRefusal q (length out) place ≡ 0 → cutBytes q out place ≡ recordsOf (events q)
+unfolding fileOf
+cut-records q out place z =
+    let g = good-cut q (length out) place z in
+    let end = place + length (fileOf (events q)) in
+    let o = cutOutput q out place in
+    let long : length o ≡ length out = ap length (cut-leaves q out place z) ∙ length-sets out place (fileOf (events q)) in
+    (λ i. slice (suc place) (cut-ends q out place z i) o)
+    ∙ sym (ap (drop 1) (slice-cons place end o 0 (omega arith) (omega (arith, long, g .room))))
+    ∙ ap (λ (x : List ℕ). drop 1 (slice place end x)) (cut-leaves q out place z)
+    ∙ ap (drop 1) (file-stands (events q) out place (g .room))
+
+module _ (q : Cut) (x : Settings) (v w : ℕ) (two : List Event) (m out : List ℕ) (place : ℕ) (sixteen : Sixteen (q .recording))
+    (z : cutRefusal q (length out) place ≡ 0) (h : Equipped q (start m) x) (p : Playable v w) (v-fits : v < 2 ^ 32) (w-fits : w < 2 ^ 32)
+    (e : EitherOrder v w two) where
+  g : GoodCut q (length out) place
+  g = good-cut q (length out) place z
+
+  abbrev all : ℕ → List Event
+  all n = powerUp x ∷ events q ++ (two ++ ticks n)
+
+  whole-file : (n : ℕ) → shipped x (cutBytes q out place) two n ≡ fileOf (all n)
+  unfolding fileOf recordsOf
+  whole-file n =
+      (λ i. 1 ∷ bytesOf (powerUp x) ++ (cut-records q out place z i ++ recordsOf (two ++ ticks n)))
+      ∙ (λ i. 1 ∷ bytesOf (powerUp x) ++ sym (records-append (events q) (two ++ ticks n)) i)
+
+  file-session : (n : ℕ) → session (shipped x (cutBytes q out place) two n) ≡ record { events = all n; end = File }
+  file-session n =
+      ap session (whole-file n)
+      ∙ file-read (all n)
+      (next (power-up-fits (start m) x (h .accepted))
+      (both-fit (events q) (two ++ ticks n) (cut-fits q sixteen _ _ g) (both-fit two (ticks n) (two-fit v w two v-fits w-fits e) (ticks-fit n))))
+
+  file-after : (n : ℕ)
+      → after (start m) ((session (shipped x (cutBytes q out place) two n)) .events) ≡ after (powered (start m) x) (events q ++ (two ++ ticks n))
+  unfolding after
+  file-after n = ap (λ (y : Session). after (start m) (y .events)) (file-session n)
+
+pub shipped-plays : Shipped-plays
+shipped-plays q x v w two m out place sixteen z h p a b e = (
+  λ n. ap (λ (y : Session). y .end) (file-session q x v w two m out place sixteen z h p a b e n),
+  same-boards q v _ _ (λ n. sym (file-after q x v w two m out place sixteen z h p a b e n))
+      (channel-plays q (start m) x v w two (ordered q sixteen _ _ (g q x v w two m out place sixteen z h p a b e)) h p e),
+)
