@@ -1,9 +1,10 @@
 /* The proved board model for hosts in C: one event on a board record, its sample memory and an event, all as numbers;
- * the rate question of a board record; the listing of a whole session file; events written as a session file; the lowest,
- * highest and last volts of a session file's channels; and the smallest size of the buffer that plays a session file.
+ * the rate question of a board record; the listing of a whole session file; events written as a session file; a cut of a
+ * recording written as one; the lowest, highest and last volts of a session file's channels; and the smallest size of the buffer
+ * that plays a session file.
  * Link with libbridge.a (`rt staticlib bridge`) for the first two, libferry.a (`rt staticlib ferry`) for the listing, libquay.a
- * (`rt staticlib quay`) for the writing, libtide.a (`rt staticlib tide`) for the volts and libgauge.a (`rt staticlib gauge`) for
- * the smallest size; all are for Linux on x86-64. */
+ * (`rt staticlib quay`) for the writing and the cutting, libtide.a (`rt staticlib tide`) for the volts and libgauge.a
+ * (`rt staticlib gauge`) for the smallest size; all are for Linux on x86-64. */
 #ifndef NERGUTSAI_H
 #define NERGUTSAI_H
 
@@ -133,6 +134,35 @@ enum {
  * their lengths say, and no two may overlap. */
 uint32_t nergutsai_write(
     const uint32_t *rows, size_t rows_length,
+    uint8_t *output, size_t output_length,
+    size_t place, size_t *end);
+
+/* The room that a cut asks for, of so many groups with so many chosen channels. */
+#define NERGUTSAI_CUT_ROOM(groups, chosen) (1 + 8 * (1 + (size_t)(groups) * (size_t)(chosen)))
+
+/* What nergutsai_cut returns beside NERGUTSAI_WRITTEN, NERGUTSAI_PLACE_PAST_END and NERGUTSAI_NO_ROOM above: why nothing was cut. */
+enum {
+    NERGUTSAI_BAD_GROUPS = 22, /* a group has no channel or more than 20, or the recording is no whole number of groups */
+    NERGUTSAI_BAD_CHOICE = 23  /* no channel is chosen, or one that a group has not; or the last group is past the recording's
+                                * end, or before the first */
+};
+
+/* The session that loads the chosen numbers of a recording, which holds them group after group, `channels` of them in each. The
+ * groups from `first` to `last` are taken, counted from 0, both with them, and of these the channels of `mask`: bit k is channel k.
+ * The session, version 1, is one write of the mask to 04h, then one to 18h for each number, group after group in ascending
+ * channels, with the end-of-frame mark on the very last and on no other. The numbers are copied as they are. Returns
+ *   NERGUTSAI_WRITTEN  the session stands in the output from `place` on, its byte 01 at `place` itself, and *end is the place after
+ *      its last byte, counted from the output's start as `place` is. The bytes before and after it are as they were.
+ *   another number  it was refused: no byte of the output changed, and *end is 0. The recording is told before what is chosen of it
+ *      (22, 23), then the place, then the room (20, 21).
+ * There is no power-up in it and no clock: its bytes from the second on stand behind a power-up's in a session file, and the writes
+ * and clocks that play it behind them (extract.c). On a board that has the chosen channels and a depth of at least so many values all
+ * are stored, and channel k of each group plays on output k. Any numbers may be handed in.
+ * The recording is only read. The three pointers must be aligned and not NULL, `recording` and `output` for as many numbers or bytes
+ * as their lengths say, and no two may overlap. */
+uint32_t nergutsai_cut(
+    const uint16_t *recording, size_t recording_length,
+    uint32_t channels, size_t first, size_t last, uint32_t mask,
     uint8_t *output, size_t output_length,
     size_t place, size_t *end);
 

@@ -112,7 +112,7 @@ fn simultaneous(
 }
 
 /// The channels of a mask, ascending.
-fn ascending(mut mask: u32) -> impl Iterator<Item = u32> {
+pub(crate) fn ascending(mut mask: u32) -> impl Iterator<Item = u32> {
     std::iter::from_fn(move || {
         if mask == 0 {
             return None;

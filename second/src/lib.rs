@@ -1,7 +1,7 @@
 //! A second, independent model of the output board, written from document 01
 //! ("Build outline: the output board and its exact rules") and, where 01 is
 //! silent, from the board's manual; of document 02 ("Further changes
-//! requested") it has requests 2026-01 to 2026-06. Of these 2026-04 changes no
+//! requested") it has requests 2026-01 to 2026-07. Of these 2026-04 changes no
 //! behaviour ("No answer changes."); the search in `clock.rs` is the one that it
 //! asks for. The model is written to be read beside the documents: each rule
 //! stands under a comment that quotes its sentence. DECISIONS.md lists the places
@@ -12,6 +12,7 @@
 #![forbid(unsafe_code)]
 
 mod clock;
+mod cutter;
 mod event;
 mod flags;
 mod interrupt;
@@ -29,6 +30,7 @@ mod sizes;
 mod volts;
 mod writer;
 
+pub use cutter::cut;
 pub use event::{step, Answer, Event};
 pub use listing::{list, listing};
 pub use rates::rates;

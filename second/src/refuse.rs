@@ -1,7 +1,8 @@
 //! The refusal numbers, those of events each "given exactly when" the table
 //! says, and the order of these. 1 and 14 to 17, the power-up settings, are as
 //! request 2026-02 has them; 18 is that of request 2026-03 and 19 that of
-//! request 2026-05; from 20 on they are those of request 2026-01.
+//! request 2026-05; 20, 21, 30 and 32 are those of request 2026-01, 22 and 23
+//! those of request 2026-07.
 
 use crate::event::Event;
 use crate::record::{depth_of, Record, LARGEST_FIRMWARE, LARGEST_FITTED, LARGEST_OPTION};
@@ -50,6 +51,11 @@ pub(crate) const NO_SIZE: u32 = 19;
 pub(crate) const PLACE: u32 = 20;
 /// "21 when the whole session doesn't fit"
 pub(crate) const ROOM: u32 = 21;
+/// "22 channels in a group not 1 to 20, or length no whole number of groups"
+pub(crate) const GROUPS: u32 = 22;
+/// "23 empty choice, a channel outside the group, or groups out of range or
+/// reversed"
+pub(crate) const CHOICE: u32 = 23;
 /// "30 a field too large for its bytes or not 0 where the kind has none"
 pub(crate) const FIELD: u32 = 30;
 /// "32 a slice not of whole events"

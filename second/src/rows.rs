@@ -24,11 +24,12 @@ pub fn rows_of(file: &[u8]) -> Result<Vec<u32>, u32> {
     }
 }
 
-/// "Kinds and lengths: 1 power-up (d, range, filter, kit, firmware in two
-/// bytes) 7; 2 write (offset, value in four) 6; 3 read (offset) 2; 4 tick, 5
-/// outside clock, 6 trigger, 7 calibration passed, 8 failed, 9 settled, 1 each."
+/// The row of an event. "Kinds and lengths: 1 power-up (d, range, filter, kit,
+/// firmware in two bytes) 7; 2 write (offset, value in four) 6; 3 read (offset) 2;
+/// 4 tick, 5 outside clock, 6 trigger, 7 calibration passed, 8 failed, 9 settled,
+/// 1 each."
 #[inline]
-fn row(event: &Event) -> [u32; ROW] {
+pub(crate) fn row(event: &Event) -> [u32; ROW] {
     match *event {
         Event::PowerUp {
             fitted,

@@ -6,6 +6,7 @@ mod common {
     pub mod bits;
     pub mod dice;
     pub mod more_bits;
+    pub mod stored;
 }
 
 use common::bench::{answer, Bench};
@@ -19,16 +20,6 @@ const BURST_TRIGGER: u32 = 1 << 2;
 const BARRED: u32 = 1 << 6;
 const SIMULTANEOUS: u32 = 1 << 7;
 const REQUEST: u32 = 1 << 11;
-
-impl Bench {
-    /// The stored values, the oldest first.
-    fn stored(&self) -> Vec<u32> {
-        let r = &self.record;
-        (0..r.count)
-            .map(|i| self.memory[((r.first + i) % (8 << r.fitted)) as usize] & 0x1_FFFF)
-            .collect()
-    }
-}
 
 // ---- the bench cases -------------------------------------------------------
 

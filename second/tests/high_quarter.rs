@@ -257,11 +257,11 @@ fn sixth_value_of_size_8() {
 
 #[test]
 fn value_of_every_size() {
-    for code in 0..16 {
-        let mut b = selected(15, code as u32);
-        b.fill(THREE_QUARTERS[code] - 1);
+    for (code, three_quarters) in (0..).zip(THREE_QUARTERS) {
+        let mut b = selected(15, code);
+        b.fill(three_quarters - 1);
         assert!(!b.requested(), "code {code}");
-        b.fill(THREE_QUARTERS[code]);
+        b.fill(three_quarters);
         assert!(b.requested(), "code {code}");
     }
 }

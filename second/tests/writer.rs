@@ -3,9 +3,11 @@
 
 mod common {
     pub mod dice;
+    pub mod outputs;
 }
 
 use common::dice::Dice;
+use common::outputs::{self, bytes};
 use second::{rows_of, write_session, Written};
 
 /// Document 01's worked example.
@@ -27,42 +29,23 @@ const UNKNOWN: [u32; 6] = [10, 0, 0, 0, 0, 0];
 const TOO_LARGE: [u32; 6] = [3, 0x100, 0, 0, 0, 0];
 const UNKNOWN_AND_TOO_LARGE: [u32; 6] = [10, 0x100, 0, 0, 0, 1];
 
-fn bytes(hex: &str) -> Vec<u8> {
-    let digits: String = hex.split_whitespace().collect();
-    (0..digits.len() / 2)
-        .map(|i| u8::from_str_radix(&digits[2 * i..2 * i + 2], 16).unwrap())
-        .collect()
+/// The writer, given these rows.
+fn writer(rows: &[u32]) -> impl Fn(&mut [u8], usize) -> Written + '_ {
+    |out, place| write_session(rows, out, place)
 }
 
-/// The call writes `session` from `place` on into an output of `length` bytes,
-/// says where it stopped, and changes no other byte: the output is filled with
-/// one junk byte and then with another, so that none can be written unseen.
+#[track_caller]
 fn writes(rows: &[u32], length: usize, place: usize, session: &[u8]) {
-    for junk in [0xA5, 0x5A] {
-        let mut out = vec![junk; length];
-        let stop = place + session.len();
-        let written = Written {
-            refusal: 0,
-            place: stop,
-        };
-        assert_eq!(write_session(rows, &mut out, place), written);
-        assert!(out[..place].iter().all(|byte| *byte == junk));
-        assert_eq!(&out[place..stop], session);
-        assert!(out[stop..].iter().all(|byte| *byte == junk));
-    }
+    outputs::writes(writer(rows), length, place, session);
 }
 
-/// The call is refused, with place 0, and changes no byte.
+#[track_caller]
 fn refuses(rows: &[u32], length: usize, place: usize, refusal: u32) {
-    for junk in [0xA5, 0x5A] {
-        let mut out = vec![junk; length];
-        let written = write_session(rows, &mut out, place);
-        assert_eq!(written, Written { refusal, place: 0 }, "{rows:?}");
-        assert!(out.iter().all(|byte| *byte == junk));
-    }
+    outputs::refuses(rows, writer(rows), length, place, refusal);
 }
 
 /// One event, written after the byte 01 into an output with bytes to spare.
+#[track_caller]
 fn event(row: [u32; 6], record: &str) {
     writes(&row, 20, 3, &bytes(&format!("01 {record}")));
 }

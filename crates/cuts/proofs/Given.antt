@@ -45,6 +45,10 @@ session-told q =
 
 -- ---- The tests are the words
 
+-- a number below 2 to the n has no bit from n up
+pub bits-inside : (n v : ℕ) → v < 2 ^ n → (k : ℕ) → bit k v ≡ true → k < n
+bits-inside n v l k t = ltb-true k n (not-false _ (λ f. true≢false (sym t ∙ bit-below n k v l (ltb-false k n f))))
+
 module _ (q : Cut) where
   -- the groups of the recording, where it has whole ones
   abbrev count : ℕ
@@ -79,14 +83,10 @@ module _ (q : Cut) where
       let c = all-cons (leb (q .first) (q .last)) _ (b .1) in
       record {
         some = eqb-false (q .mask) 0 (not-true _ (not-both _ (a .0)));
-        inside = λ k t. within-group k t (ltb-true _ _ (b .0));
+        inside = bits-inside (q .channels) (q .mask) (ltb-true _ _ (b .0));
         forward = leb-true _ _ (c .0);
         within = ltb-true _ _ ((all-cons _ [] (c .1)) .0);
       }
-    where
-      within-group : (k : ℕ) → bit k (q .mask) ≡ true → q .mask < 2 ^ q .channels → k < q .channels
-      within-group k t l =
-          ltb-true k (q .channels) (not-false _ (λ f. true≢false (sym t ∙ bit-below (q .channels) k (q .mask) l (ltb-false k (q .channels) f))))
 
   choice-from : GoodChoice q count → isChoice q ≡ true
   unfolding isChoice all

@@ -9,3 +9,5 @@ pub mod Ticks
 pub mod Order
 pub mod Plays
 pub mod Shipped
+pub mod Examples
+pub mod Instances

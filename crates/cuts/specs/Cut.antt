@@ -27,6 +27,14 @@ pub record Cut : Type 0 where
   pub last : ℕ
   pub mask : ℕ
 
+-- ---- The end-of-frame mark
+
+-- 02: "EOF on the very last and on no other"; it is bit 16
+unfoldable pub eofOnLast : List ℕ → List ℕ
+eofOnLast [] = []
+eofOnLast (v ∷ []) = (v + 0x10000) ∷ []
+eofOnLast (v ∷ w ∷ vs) = v ∷ eofOnLast (w ∷ vs)
+
 -- ---- The chosen numbers
 
 unfoldable pub sample : Cut → ℕ → ℕ → ℕ
@@ -48,12 +56,6 @@ unfoldable pub numbers : Cut → List ℕ
 numbers q = numbersFrom q (q .first) (groups q)
 
 -- ---- The session
-
--- 02: "EOF on the very last and on no other"; it is bit 16
-unfoldable pub eofOnLast : List ℕ → List ℕ
-eofOnLast [] = []
-eofOnLast (v ∷ []) = (v + 0x10000) ∷ []
-eofOnLast (v ∷ w ∷ vs) = v ∷ eofOnLast (w ∷ vs)
 
 -- 02: "one write to 04h, then one to 18h for each value"
 unfoldable pub events : Cut → List Event

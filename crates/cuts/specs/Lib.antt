@@ -1,3 +1,5 @@
 pub mod Cut
 pub mod Laws
 pub mod Plays
+pub mod Examples
+pub mod Instances

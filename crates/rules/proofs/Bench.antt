@@ -17,7 +17,7 @@ alike [] (y ∷ ys) = false
 alike (x ∷ xs) [] = false
 alike (x ∷ xs) (y ∷ ys) = eqb x y && alike xs ys
 
-alike-equal : (xs ys : List ℕ) → alike xs ys ≡ true → xs ≡ ys
+pub alike-equal : (xs ys : List ℕ) → alike xs ys ≡ true → xs ≡ ys
 unfolding alike
 alike-equal [] [] h = refl
 alike-equal [] (y ∷ ys) h = absurd (false≢true h)

@@ -1,5 +1,6 @@
 //! The proved model of the PC104P-16AO20 for hosts in Rust: a safe wrapper of `nergutsai_event`,
-//! `nergutsai_rate`, `nergutsai_list`, `nergutsai_write`, `nergutsai_volts` and `nergutsai_smallest_size`.
+//! `nergutsai_rate`, `nergutsai_list`, `nergutsai_write`, `nergutsai_cut`, `nergutsai_volts` and
+//! `nergutsai_smallest_size`.
 //!
 //! The archives libbridge.a, libferry.a, libquay.a, libtide.a and libgauge.a are for Linux on x86-64.
 
@@ -159,6 +160,19 @@ extern "C" {
         end: *mut usize,
     ) -> u32;
 
+    fn nergutsai_cut(
+        recording: *const u16,
+        recording_length: usize,
+        channels: u32,
+        first: usize,
+        last: usize,
+        mask: u32,
+        output: *mut u8,
+        output_length: usize,
+        place: usize,
+        end: *mut usize,
+    ) -> u32;
+
     fn nergutsai_volts(
         file: *const u8,
         file_length: usize,
@@ -293,6 +307,62 @@ pub fn write(rows: &[u32], output: &mut [u8], place: usize) -> Result<usize, Ref
     match write_call(rows, output, place, &mut end) {
         0 => Ok(end),
         number => Err(Refusal::of(number).expect("the writer has no other number")),
+    }
+}
+
+/// What is cut out of a recording. Any numbers may be handed in: what is wrong with them is told by its refusal.
+#[derive(Clone, Copy, Debug, PartialEq, Eq)]
+pub struct Order<'a> {
+    /// The numbers, group after group.
+    pub recording: &'a [u16],
+    /// How many channels a group has, 1 to 20.
+    pub channels: u32,
+    /// The first group, from 0, and the last; both are taken.
+    pub first: usize,
+    pub last: usize,
+    /// The chosen channels: bit k is channel k, which plays on output k.
+    pub mask: u32,
+}
+
+/// The room that `cut` asks for so many groups with so many chosen channels.
+#[must_use]
+pub fn cut_room(groups: usize, chosen: usize) -> usize {
+    1 + 8 * (1 + groups * chosen)
+}
+
+/// The cutter itself, on numbers: answers 0, or the number of the refusal (hosts/c/nergutsai.h), and sets `end`.
+#[must_use]
+pub fn cut_call(order: &Order, output: &mut [u8], place: usize, end: &mut usize) -> u32 {
+    // The borrows make the two slices and `end` valid and apart from each other, which is all that the function asks.
+    unsafe {
+        nergutsai_cut(
+            order.recording.as_ptr(),
+            order.recording.len(),
+            order.channels,
+            order.first,
+            order.last,
+            order.mask,
+            output.as_mut_ptr(),
+            output.len(),
+            place,
+            end,
+        )
+    }
+}
+
+/// The session that loads the chosen numbers of a recording, into the output from the place on: one write of the mask
+/// to 04h, then one to 18h for each number, group after group in ascending channels, the end-of-frame mark on the very
+/// last. Answers the place after its last byte, counted from the output's start; bytes outside of it do not change, and
+/// none at all where it is refused. The numbers are copied as they are.
+///
+/// There is no power-up in it and no clock: its bytes from the second on stand behind a power-up's in a session file,
+/// and the writes and clocks that play it behind them (examples/extract.rs). On a board that has the chosen channels
+/// and a depth of at least so many values all are stored, and channel k of each group plays on output k.
+pub fn cut(order: &Order, output: &mut [u8], place: usize) -> Result<usize, Refusal> {
+    let mut end = 0;
+    match cut_call(order, output, place, &mut end) {
+        0 => Ok(end),
+        number => Err(Refusal::of(number).expect("the cutter has no other number")),
     }
 }
 

@@ -1,14 +1,16 @@
-//! Why an event was refused, a session not written, or a session file without volts or a size that plays it.
+//! Why an event was refused, a session or a cut not written, or a session file without volts or a size that plays it.
 
 use std::error::Error;
 use std::fmt;
 
-/// Why an event was refused, why `write` wrote nothing, why `volts` has no table, or why `smallest_size` names no code.
+/// Why an event was refused, why `write` or `cut` wrote nothing, why `volts` has no table, or why `smallest_size` names no
+/// code.
 ///
 /// A power-up names its first bad setting, in the order of this list. Where several things are wrong with another event,
 /// the lowest number is told, but 3 before 2. Of a session, rows that are not whole events are told first; then the first
-/// bad event decides, its kind before its fields; then the place; then the room. Of a session file, what is wrong with
-/// the file is told before a missing power-up, or that no size plays it.
+/// bad event decides, its kind before its fields; then the place; then the room. Of a cut, the recording is told before
+/// what is chosen of it, then the place, then the room. Of a session file, what is wrong with the file is told before a
+/// missing power-up, or that no size plays it.
 #[derive(Clone, Copy, Debug, PartialEq, Eq)]
 pub enum Refusal {
     /// Power-up: the fitted code is not 0 to 15.
@@ -43,6 +45,10 @@ pub enum Refusal {
     PlacePastEnd,
     /// The session does not fit into the output from the place on.
     NoRoom,
+    /// A group has no channel or more than 20, or the recording is no whole number of groups.
+    BadGroups,
+    /// No channel is chosen or one that a group has not, or the groups are past the recording's end or the wrong way round.
+    BadChoice,
     /// The session file is empty, or its first byte is not 01.
     NotASession,
     /// The session file ends inside a record.
@@ -56,7 +62,7 @@ pub enum Refusal {
 }
 
 impl Refusal {
-    const ALL: [Refusal; 21] = [
+    const ALL: [Refusal; 23] = [
         Refusal::BadFitted,
         Refusal::BadRange,
         Refusal::BadFilter,
@@ -73,6 +79,8 @@ impl Refusal {
         Refusal::FieldTooLarge,
         Refusal::PlacePastEnd,
         Refusal::NoRoom,
+        Refusal::BadGroups,
+        Refusal::BadChoice,
         Refusal::NotASession,
         Refusal::Cut,
         Refusal::WrongLength,
@@ -80,7 +88,8 @@ impl Refusal {
         Refusal::NoSizePlays,
     ];
 
-    /// The refusal number, as an answer has it, or `write_call`, `volts_call` or `smallest_size_call` answers it.
+    /// The refusal number, as an answer has it, or `write_call`, `cut_call`, `volts_call` or `smallest_size_call` answers
+    /// it.
     #[must_use]
     pub fn number(self) -> u32 {
         match self {
@@ -100,6 +109,8 @@ impl Refusal {
             Refusal::FieldTooLarge => 30,
             Refusal::PlacePastEnd => 20,
             Refusal::NoRoom => 21,
+            Refusal::BadGroups => 22,
+            Refusal::BadChoice => 23,
             Refusal::NotASession => 10,
             Refusal::Cut => 11,
             Refusal::WrongLength => 12,
@@ -149,6 +160,12 @@ impl fmt::Display for Refusal {
             }
             Refusal::NoRoom => {
                 "the session does not fit from the place on: lend a longer output"
+            }
+            Refusal::BadGroups => {
+                "the recording is no whole groups: a group has 1 to 20 channels, each of them a number in every group"
+            }
+            Refusal::BadChoice => {
+                "there is nothing to cut: choose channels that a group has, and groups from first to last of the recording"
             }
             Refusal::NotASession => "the file is no session: its first byte is 01",
             Refusal::Cut => "the file ends inside a record: hand in the whole of it",

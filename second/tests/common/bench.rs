@@ -1,4 +1,4 @@
-//! The board of bench.rs and high_quarter.rs.
+//! The board of bench.rs, cutter.rs and high_quarter.rs.
 
 use second::{step, Answer, Event, Record};
 

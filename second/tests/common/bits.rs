@@ -1,4 +1,5 @@
-//! Register bits that bench.rs, high_quarter.rs, sizes.rs and volts.rs use.
+//! Register bits that bench.rs, cutter.rs, high_quarter.rs, sizes.rs and volts.rs
+//! use.
 
 pub const EOF: u32 = 0x1_0000;
 // BOR; the size code, D3..0, is 0 in all of these

@@ -1,4 +1,4 @@
-//! Register bits that only bench.rs, high_quarter.rs and sizes.rs use.
+//! Register bits that only bench.rs, cutter.rs, high_quarter.rs and sizes.rs use.
 
 // BOR; the size code, D3..0, is 0 in all of these
 pub const ENABLED: u32 = 1 << 5;
