@@ -1,7 +1,8 @@
 //! Lists or writes five sessions, makes their tables of volts or finds the smallest sizes that play them, many times in
 //! one process, through the proved code and through the second model, written in Rust, and prints how many events a
-//! second each takes and the ratio of their times.
+//! second each takes and the ratio of their times; or cuts recordings, through the proved code and through a plain loop.
 
+mod cutting;
 mod sessions;
 mod sizes;
 mod volts;
@@ -12,22 +13,27 @@ use std::process::exit;
 use std::time::{Duration, Instant};
 
 const HELP: &str = "\
-bench/run - the proved listing, writing, volts or sizes of whole sessions against the same in Rust
+bench/run - the proved listing, writing, volts or sizes of whole sessions, or the proved
+cutting of recordings, against the same in Rust
 
-usage: bench/run [--rounds N] [--only NAME] [--writing | --volts | --sizes] [--ours] [--help]
+usage: bench/run [--rounds N] [--only NAME] [--writing | --cutting | --volts | --sizes]
+                 [--ours] [--help]
 
   --rounds N     how often each session is replayed on each side, a number from 1
                  (default 2000); in turns, and the best is taken
-  --only NAME    only this session: streaming, sparse, circular, simultaneous or random
+  --only NAME    only this session: streaming, sparse, circular, simultaneous or random;
+                 of --cutting only this cut, by its name in the table
   --writing      the sessions are written from their events, and not listed
+  --cutting      sessions of 8,000 values are cut out of recordings, beside a plain loop
+                 in Rust that writes the same bytes; an event is a value
   --volts        the table of lowest, highest and last volts is made of them, and not a
                  listing; below each row stands its time over that of the listing
   --sizes        the smallest size that plays each of them is found: it is replayed with
                  code 0, 1 and so on up to the one named, with all sixteen where none plays
                  (refusal 19). An event counts once, however many replays there are; below
                  each row stand the code, the replays, the proved side's time an event, and
-                 its time over that of one listing. Of --writing, --volts and --sizes the
-                 last counts
+                 its time over that of one listing. Of --writing, --cutting, --volts and
+                 --sizes the last counts
   --ours         only the proved side and no table, for a profiler
   --help         this text
 
@@ -49,46 +55,74 @@ struct Options {
 /// What is measured.
 #[derive(Clone, Copy)]
 enum What {
-    Listing,
-    Writing,
-    Volts,
-    Sizes,
+    Cutting,
+    Sessions(Made),
 }
+
+/// What is made of a session.
+#[derive(Clone, Copy)]
+enum Made {
+    Listing,
+    File,
+    Volts,
+    Size,
+}
+
+const HEAD: &str = "session         events   Rust, events/s   proved, events/s   ratio";
 
 fn main() {
     let options = match options() {
         Ok(options) => options,
-        Err(text) => {
-            eprintln!("{text}\n(`bench/run --help` tells more)");
-            exit(2);
-        }
+        Err(text) => wrong(&text),
     };
+    let only = options.only.as_deref();
+    match (options.what, options.ours) {
+        (What::Cutting, true) => cutting::ours(only, options.rounds),
+        (What::Cutting, false) => cutting::measure(only, options.rounds),
+        (What::Sessions(made), true) => ours(made, only, options.rounds),
+        (What::Sessions(made), false) => both(made, only, options.rounds),
+    }
+}
+
+/// Wrong usage.
+fn wrong(text: &str) -> ! {
+    eprintln!("{text}\n(`bench/run --help` tells more)");
+    exit(2);
+}
+
+/// The sessions that are asked for.
+fn chosen(only: Option<&str>) -> Vec<sessions::Sessions> {
     let mut chosen = sessions::all();
-    if let Some(name) = &options.only {
+    if let Some(name) = only {
         chosen.retain(|session| session.name == name);
         if chosen.is_empty() {
-            eprintln!("--only: there is no session `{name}`\n(`bench/run --help` tells more)");
-            exit(2);
+            wrong(&format!("--only: there is no session `{name}`"));
         }
     }
-    if options.ours {
-        for session in &chosen {
-            match options.what {
-                What::Listing => listing(&session.file, options.rounds),
-                What::Writing => writing::ours(session, options.rounds),
-                What::Volts => volts::ours(session, options.rounds),
-                What::Sizes => sizes::ours(session, options.rounds),
-            }
+    chosen
+}
+
+/// The proved side alone.
+fn ours(made: Made, only: Option<&str>, rounds: u64) {
+    for session in &chosen(only) {
+        match made {
+            Made::Listing => listing(&session.file, rounds),
+            Made::File => writing::ours(session, rounds),
+            Made::Volts => volts::ours(session, rounds),
+            Made::Size => sizes::ours(session, rounds),
         }
-        return;
     }
-    println!("session         events   Rust, events/s   proved, events/s   ratio");
+}
+
+fn both(made: Made, only: Option<&str>, rounds: u64) {
+    let chosen = chosen(only);
+    println!("{HEAD}");
     for session in &chosen {
-        match options.what {
-            What::Listing => measure(session.name, &session.file, options.rounds),
-            What::Writing => writing::measure(session, options.rounds),
-            What::Volts => volts::measure(session, options.rounds),
-            What::Sizes => sizes::measure(session, options.rounds),
+        match made {
+            Made::Listing => measure(session.name, &session.file, rounds),
+            Made::File => writing::measure(session, rounds),
+            Made::Volts => volts::measure(session, rounds),
+            Made::Size => sizes::measure(session, rounds),
         }
     }
 }
@@ -97,7 +131,7 @@ fn options() -> Result<Options, String> {
     let mut options = Options {
         rounds: 2_000,
         only: None,
-        what: What::Listing,
+        what: What::Sessions(Made::Listing),
         ours: false,
     };
     let mut given = std::env::args().skip(1);
@@ -112,9 +146,10 @@ fn options() -> Result<Options, String> {
                 };
             }
             "--only" => options.only = Some(word()?),
-            "--writing" => options.what = What::Writing,
-            "--volts" => options.what = What::Volts,
-            "--sizes" => options.what = What::Sizes,
+            "--writing" => options.what = What::Sessions(Made::File),
+            "--cutting" => options.what = What::Cutting,
+            "--volts" => options.what = What::Sessions(Made::Volts),
+            "--sizes" => options.what = What::Sessions(Made::Size),
             "--ours" => options.ours = true,
             "--help" | "-h" => {
                 print!("{HELP}");

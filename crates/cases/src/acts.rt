@@ -12,6 +12,9 @@
 //   Put(kind, ..)        a row of an event joins the slice for the writer
 //   Cut(n)               the slice's last n numbers are missing
 //   Write(n, place)      writes the slice into an output of n bytes from a place on; prints the refusal, and where the writer stopped
+//   Group(n, channels, first, last, mask, place)
+//                        cuts these groups out of the first n numbers of a recording, into an output of 40 bytes from a place on; prints
+//                        the refusal, and where the cutter stopped
 //   Bytes.               prints the 40 bytes in which the output is the first n
 //   Tell(place)          prints the row of the event at a place of the output, and the place after it
 use crate::board::event;
@@ -19,6 +22,7 @@ use crate::board::set;
 use crate::desk::Desk;
 use crate::desk::cleared;
 use crate::endings;
+use crate::extract::extracted;
 use crate::figures;
 use crate::print;
 use crate::sheet;
@@ -39,6 +43,7 @@ pub(crate) fn done(mut desk: Desk) -> Desk {
         b'P' => put(desk),
         b'C' => cut(desk),
         b'W' => written(desk),
+        b'G' => extracted(desk),
         _ => {
             told(desk);
             desk

@@ -7,6 +7,7 @@ mod acts;
 mod board;
 mod desk;
 mod endings;
+mod extract;
 mod figures;
 mod line;
 mod print;

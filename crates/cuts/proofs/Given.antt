@@ -1,18 +1,17 @@
 -- The session of a cut, and which calls are refused (specs/Laws, Session-told, Cut-exactly, Cut-refused).
 use Prim.Native.Nat.{ℕ, zero, suc, _+_, _*_, _/_, _%_, _^_, _≤_, _<_}
 use mathlib.Core.Path.{_≡_, refl, sym, ap, subst, _∙_}
-use mathlib.Core.Logic.{_≢_, _⊎_, inl, inr}
+use mathlib.Core.Logic.{_≢_, inl, inr}
 use mathlib.Core.Bool.{Bool, true, false, not, true≢false}
 use mathlib.Core.List.{List, [], _∷_, map}
 use native.Mathlib.Nat.{div-add-mod', mul-mod-left, mul-div-cancel, le-div-iff-mul-le, pow-suc}
 use native.Mathlib.Omega.{arith}
-use borrow.Author.Tests.{ltb-true, ltb-false, leb-true, leb-false, le-leb, lt-leb, lt-ltb, le-ltb, eq-eqb, ne-eqb, eqb-true, eqb-false}
+use borrow.Author.Tests.{ltb-true, ltb-false, leb-true, leb-false, le-leb, lt-ltb, eq-eqb, ne-eqb, eqb-true, eqb-false}
 use lib.Dec.{leb, ltb, eqb}
 use lib.Count.{ones}
-use lib.ListN.{length, getD, length-map}
+use lib.ListN.{length, length-map}
 use lib.Pow.{pow-pos}
 use lib.Seq.{sets}
-use Rattle.rules.specs.declared.Event.{Event}
 use Rattle.rules.specs.declared.Event.the-variants.{Write as write, Read as read}
 use Rattle.rules.specs.Bits.{bit, all}
 use Rattle.rules.specs.Refusals.{firstOf}
@@ -21,7 +20,7 @@ use Rattle.rules.proofs.Masks.{below-bits, bit-below, below-pow, bit-shift, bit
 use Rattle.files.specs.Bytes.{recordsOf, fileOf}
 use Rattle.files.proofs.WritesGiven.{decided, past-decided, short-decided, room-decided}
 use Rattle.cuts.specs.Cut.{Cut, chosen, groups, numbers, eofOnLast, events, isGrouped, isChoice, cutRefusal, cutEnd, cutOutput}
-use Rattle.cuts.specs.Laws.{Grouped, GoodChoice, SessionTold, Session-told, CutGiven, badGroup, partGroup, empty, outside, reversed, beyond, pastEnd, tooLong, done, Cut-exactly, Cut-refused}
+use Rattle.cuts.specs.Laws.{Grouped, GoodChoice, Session-told, CutGiven, badGroup, partGroup, empty, outside, reversed, beyond, pastEnd, tooLong, done, Cut-exactly, Cut-refused}
 use Rattle.cuts.proofs.Lists.{map-at, eof-told}
 use Rattle.cuts.proofs.Numbers.{chosen-ones, numbers-long}
 
@@ -54,7 +53,7 @@ module _ (q : Cut) where
   abbrev count : ℕ
   count = length (q .recording) / q .channels
 
-  grouped-to : isGrouped q ≡ true → Grouped q count
+  pub grouped-to : isGrouped q ≡ true → Grouped q count
   unfolding isGrouped
   grouped-to h =
       let a = all-cons (leb 1 (q .channels)) _ h in
@@ -75,7 +74,7 @@ module _ (q : Cut) where
     grouped-count : count ≡ g
     grouped-count = ap (λ (n : ℕ). n / q .channels) (h .whole) ∙ mul-div-cancel g (h .some)
 
-  choice-to : isChoice q ≡ true → GoodChoice q count
+  pub choice-to : isChoice q ≡ true → GoodChoice q count
   unfolding isChoice
   choice-to h =
       let a = all-cons (not (eqb (q .mask) 0)) _ h in
@@ -126,7 +125,7 @@ module _ (q : Cut) (n place : ℕ) where
   abbrev Told : ℕ → Type 0
   Told = CutGiven q n place
 
-  not-grouped : isGrouped q ≡ false → Told 22
+  pub not-grouped : isGrouped q ≡ false → Told 22
   unfolding isGrouped all
   not-grouped h = go (leb 1 (q .channels)) refl (leb (q .channels) 20) refl (eqb (length (q .recording) % q .channels) 0) refl h
     where
@@ -139,7 +138,7 @@ module _ (q : Cut) (n place : ℕ) where
           (λ k w. eqb-false _ 0 g (ap (λ (m : ℕ). m % q .channels) w ∙ mul-mod-left k (q .channels)))
       go true e true f true g h = absurd (true≢false h)
 
-  not-chosen : Grouped q (count q) → isChoice q ≡ false → Told 23
+  pub not-chosen : Grouped q (count q) → isChoice q ≡ false → Told 23
   unfolding isChoice all
   not-chosen g h =
       go (eqb (q .mask) 0) refl (ltb (q .mask) (2 ^ q .channels)) refl (leb (q .first) (q .last)) refl (ltb (q .last) (count q)) refl h

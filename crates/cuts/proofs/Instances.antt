@@ -87,12 +87,12 @@ in-turn-plays =
 four-plays : OnItsOutput four 0x90 (played four six together)
 four-plays =
     (shipped-plays four six 0x90 0x20 together lent (replicate 73 0) 0 (sixteen small four-sixteen) four-good four-equipped together-plays
-    (omega arith) (omega arith) controlFirst) .1
+    (omega arith) (omega arith) controlFirst) .plays
 
 eight-plays : OnItsOutput eight 0x00 (played eight twenty inTurn)
 eight-plays =
     (shipped-plays eight twenty 0x00 0x20 inTurn lent (replicate 73 0) 0 (sixteen wide eight-sixteen) eight-good eight-equipped in-turn-plays
-    (omega arith) (omega arith) bufferFirst) .1
+    (omega arith) (omega arith) bufferFirst) .plays
 
 -- ---- Two levels of each
 

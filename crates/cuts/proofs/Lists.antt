@@ -1,12 +1,12 @@
 -- Lists of numbers, place by place: what `map` makes of a list, and the end-of-frame mark on the last of one.
 use Prim.Native.Nat.{ℕ, zero, suc, _+_, _%_, _<_}
-use mathlib.Core.Path.{_≡_, refl, sym, ap, _∙_}
+use mathlib.Core.Path.{_≡_, refl, ap}
 use mathlib.Core.List.{List, [], _∷_, map}
 use native.Mathlib.Nat.{le-of-suc-le-suc, not-suc-le-zero}
 use native.Mathlib.Omega.{arith}
 use lib.ListN.{length, getD}
 use Rattle.cuts.specs.Cut.{eofOnLast}
-use Rattle.cuts.specs.Laws.{EofTold, Eof-told}
+use Rattle.cuts.specs.Laws.{Eof-told}
 
 pub map-at {ℓ} : {B : Type ℓ} (f : ℕ → B) (xs : List ℕ) (i : ℕ) (d : B) → i < length xs → getD (map f xs) i d ≡ f (getD xs i 0)
 map-at f [] i d l = absurd (not-suc-le-zero l)

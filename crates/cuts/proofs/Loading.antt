@@ -1,18 +1,16 @@
 -- The cut's events right after an accepted power-up: the mask is written, and each value is stored behind the one before (specs/Plays,
 -- Cut-stored).
 --   Loading s₀ vs s    the board s₀ with the mask written, after the loads of the values vs
-use Prim.Native.Nat.{ℕ, zero, suc, _+_, _%_, _^_, _≤_, _<_, zero-le}
+use Prim.Native.Nat.{ℕ, zero, suc, _+_, _%_, _^_, _≤_, _<_}
 use mathlib.Core.Path.{_≡_, refl, sym, ap, subst, _∙_}
 use mathlib.Core.Logic.{_≢_}
 use mathlib.Core.Bool.{true, false, false≢true}
 use mathlib.Core.List.{List, [], _∷_, _++_, map, append-assoc, append-nil}
-use native.Mathlib.Nat.{mod-eq-of-lt, le-of-eq, le-trans}
+use native.Mathlib.Nat.{mod-eq-of-lt, le-of-eq}
 use native.Mathlib.Omega.{arith}
 use lib.ListN.{length, getD, length-append}
 use Rattle.rules.specs.declared.Settings.{Settings}
-use Rattle.rules.specs.declared.Event.{Event}
 use Rattle.rules.specs.declared.Event.the-variants.{PowerUp as powerUp, Write as write}
-use Rattle.rules.specs.declared.Size.{Size}
 use Rattle.rules.specs.declared.Core.{Core}
 use Rattle.rules.specs.Record.{State, stored, depthOf, activeSize, channels, valueSpan}
 use Rattle.rules.specs.Parts.{withOutputs}
@@ -31,15 +29,14 @@ use Rattle.rules.proofs.Sizes.{size-lesser}
 use Rattle.rules.proofs.Masks.{below-bits}
 use Rattle.rules.proofs.Refusals.{power-up-accepted}
 use Rattle.rules.proofs.Initial.{power-up-fresh}
-use Rattle.laws.specs.Loads.{Loaded}
 use Rattle.laws.proofs.Places.{onList}
 use Rattle.laws.proofs.Lasting.{up-stands, stands-kept}
 use Rattle.laws.proofs.Loads.{load-loaded}
 use Rattle.cuts.specs.Cut.{Cut, numbers, eofOnLast, events}
-use Rattle.cuts.specs.Plays.{Equipped, Ordered, powered, Fine, none, next, StoredInOrder, Cut-stored}
+use Rattle.cuts.specs.Plays.{Equipped, Ordered, powered, Fine, none, next, Cut-stored}
 use Rattle.cuts.proofs.Lists.{eof-told}
 use Rattle.cuts.proofs.Numbers.{numbers-small}
-use Rattle.cuts.proofs.Passing.{Done, event-done, write-open}
+use Rattle.cuts.proofs.Passing.{Done, event-done, write-open, no-loss}
 
 offset-04 : Offset 0x04
 offset-04 = record { aligned = refl; low = omega arith }
@@ -161,7 +158,7 @@ module _ (q : Cut) (s : State) (x : Settings) (o : Ordered q) (h : Equipped q s 
 
   cut-fine : Fine (outcomes (powered s x) (events q))
   unfolding events outcomes
-  cut-fine = let d = mask-done q s x h in next (d .refusal) (le-trans (le-of-eq (d .fate)) zero-le) (loaded .fine)
+  cut-fine = let d = mask-done q s x h in next (d .refusal) (no-loss (d .fate)) (loaded .fine)
 
 pub cut-stored : Cut-stored
 cut-stored q s x o h = record { fine = cut-fine q s x o h; values = (cut-loaded q s x o h) .values }

@@ -1,6 +1,6 @@
 -- The chosen channels and the chosen numbers, place by place (specs/Laws, Numbers-told).
-use Prim.Native.Nat.{ℕ, zero, suc, _+_, _*_, _^_, _≤_, _<_, zero-le}
-use mathlib.Core.Path.{_≡_, refl, sym, ap, _∙_}
+use Prim.Native.Nat.{ℕ, zero, suc, _+_, _*_, _^_, _<_, zero-le}
+use mathlib.Core.Path.{_≡_, sym, ap, _∙_}
 use mathlib.Core.Bool.{true}
 use mathlib.Core.List.{List, [], _∷_, _++_, map}
 use native.Mathlib.Nat.{div-one, suc-mul}
@@ -13,7 +13,7 @@ use Rattle.rules.proofs.Masks.{below-bits}
 use Rattle.laws.specs.Moved.{ActiveAscending}
 use Rattle.laws.proofs.Actives.{active-to, active-from, active-ascending, active-ones}
 use Rattle.cuts.specs.Cut.{Cut, sample, chosen, numbersFrom, groups, numbers}
-use Rattle.cuts.specs.Laws.{Grouped, GoodChoice, NumbersTold, Numbers-told, Sixteen}
+use Rattle.cuts.specs.Laws.{Grouped, GoodChoice, Numbers-told, Sixteen}
 use Rattle.cuts.proofs.Lists.{map-at}
 
 -- ---- The channels

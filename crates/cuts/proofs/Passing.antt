@@ -1,11 +1,11 @@
 -- One event after another on a board that stands: a write or a tick that is not refused, by what the rules make of it.
 --   Done s e p    the event e is done in the state s, and p is its play
-use Prim.Native.Nat.{ℕ, _≤_}
+use Prim.Native.Nat.{ℕ, zero, suc, _≤_, zero-le}
 use mathlib.Core.Path.{_≡_, refl, sym, ap, _∙_}
 use mathlib.Core.Logic.{_≢_}
-use mathlib.Core.Bool.{Bool, true, false, true≢false}
-use mathlib.Core.List.{List}
-use native.Mathlib.Omega.{arith}
+use mathlib.Core.Bool.{true, false, true≢false}
+use mathlib.Core.List.{List, [], _∷_, _++_}
+use native.Mathlib.Nat.{le-of-eq, le-trans}
 use Rattle.rules.specs.declared.Event.{Event}
 use Rattle.rules.specs.declared.Event.the-variants.{Write as write, Signal as signal}
 use Rattle.rules.specs.declared.Signal.the-variants.{Tick as tick}
@@ -16,11 +16,14 @@ use Rattle.rules.specs.Refusals.{refusal}
 use Rattle.rules.specs.Step.{played, boardBefore, done, step}
 use Rattle.rules.specs.Laws.Soundness.{Stands}
 use Rattle.rules.specs.Laws.Refusals.{Ordinary, Offset, written, heard, aTick}
-use Rattle.rules.proofs.Steps.{step-done}
+use Rattle.rules.specs.Session.{outcomes, after}
+use Rattle.rules.proofs.Steps.{step-done, refusal-answered}
 use Rattle.rules.proofs.Refusals.{refusal-exactly}
 use Rattle.laws.proofs.Places.{onList}
 use Rattle.laws.proofs.Kept.{kept, stands-fit}
 use Rattle.laws.proofs.Lasting.{stands-kept}
+use Rattle.laws.proofs.Loads.{fate-none}
+use Rattle.cuts.specs.Plays.{Fine, none, next, ticks}
 
 pub record Done (s : State) (e : Event) (p : Play) : Type 0 where
   pub refusal : (step s e) .answer .refusal ≡ 0
@@ -43,6 +46,10 @@ event-done s e p st o z h =
       size = rw (step-done s e z) refl;
     }
 
+-- an event that is no load loses nothing
+pub no-loss : {n : ℕ} → n ≡ 0 → n ≤ 1
+no-loss e = le-trans (le-of-eq e) zero-le
+
 -- ---- Which are not refused
 
 -- a write to a register that is none of the two that are read only, while no calibration runs
@@ -52,3 +59,18 @@ write-open s o v st a m m′ c = (refusal-exactly s (write o v) 0) .1 (written s
 
 pub tick-open : (s : State) → Stands s → refusal s (signal tick) ≡ 0
 tick-open s st = (refusal-exactly s (signal tick) 0) .1 (heard aTick st)
+
+-- ---- One after another
+
+pub fine-append : (s : State) (es fs : List Event) → Fine (outcomes s es) → Fine (outcomes (after s es) fs) → Fine (outcomes s (es ++ fs))
+unfolding outcomes after
+fine-append s [] fs none h = h
+fine-append s (e ∷ es) fs (next r f g) h = next r f (fine-append ((step s e) .state) es fs g h)
+
+-- ticks are never refused, and lose nothing
+pub ticks-fine : (n : ℕ) (s : State) → Stands s → Fine (outcomes s (ticks n))
+unfolding outcomes
+ticks-fine zero s st = none
+ticks-fine (suc n) s st =
+    next (refusal-answered s (signal tick) ∙ tick-open s st) (no-loss (fate-none s (signal tick) (λ h. h)))
+    (ticks-fine n ((step s (signal tick)) .state) (stands-kept s (signal tick) st))

@@ -12,21 +12,21 @@ use Rattle.rules.specs.declared.Settings.{Settings}
 use Rattle.rules.specs.declared.Event.{Event}
 use Rattle.rules.specs.declared.Event.the-variants.{Signal as signal}
 use Rattle.rules.specs.declared.Signal.the-variants.{Tick as tick}
-use Rattle.rules.specs.declared.Core.{Core}
 use Rattle.rules.specs.Bits.{bit, activeFrom, headOr}
 use Rattle.rules.specs.Record.{State, stored, levelSpan}
 use Rattle.rules.specs.Clocks.{targets}
 use Rattle.rules.specs.Step.{step}
-use Rattle.rules.specs.Session.{after}
+use Rattle.rules.specs.Session.{outcomes, after}
 use Rattle.rules.proofs.Runs.{after-append}
 use Rattle.laws.specs.Moved.{Coding, levelAt, Among}
 use Rattle.laws.proofs.Among.{among-nil, among-cons}
 use Rattle.cuts.specs.Cut.{Cut, sample, chosen, groups, numbers, eofOnLast, events}
-use Rattle.cuts.specs.Plays.{Equipped, Ordered, powered, Playable, EitherOrder, ticks, Together, InTurn, OnItsOutput, Channel-plays}
+use Rattle.cuts.specs.Plays.{Equipped, Ordered, powered, Fine, Playable, EitherOrder, ticks, Together, InTurn, OnItsOutput, Channel-plays}
 use Rattle.cuts.proofs.Lists.{eof-told, eof-data}
 use Rattle.cuts.proofs.Numbers.{chosen-channels, numbers-long, numbers-at}
-use Rattle.cuts.proofs.Loading.{cut-loaded}
-use Rattle.cuts.proofs.Ready.{Ready, Playing, two-playing}
+use Rattle.cuts.proofs.Passing.{fine-append, ticks-fine}
+use Rattle.cuts.proofs.Loading.{cut-loaded, cut-stored}
+use Rattle.cuts.proofs.Ready.{Playing, BothDone, two-done}
 use Rattle.cuts.proofs.Ticks.{tick-moves, tick-playing, tick-given, simultaneous-targets, sequential-targets}
 use Rattle.cuts.proofs.Order.{next-from}
 
@@ -155,9 +155,12 @@ module _ (q : Cut) (o : Ordered q) (v : ℕ) (s : State) where
           go : (activeFrom (t .cursor) (q .mask) ≡ drop i (chosen q)) ⊎ ((i ≡ 0) × (activeFrom (t .cursor) (q .mask) ≡ []))
               → (n : ℕ) × (n ≤ 20) × (activeFrom n (q .mask) ≡ turn ∷ drop (suc i) (chosen q))
               × (headOr 0 (activeFrom (t .cursor) (q .mask) ++ chosen q) ≡ turn)
-          go (inl e) =
-              (t .cursor, omega (arith, t .playing .stands .sound .cursor, t .playing .ready .cursor-is), e ∙ split,
-              ap (λ (ks : List ℕ). headOr 0 (ks ++ chosen q)) (e ∙ split))
+          go (inl e) = (
+            t .cursor,
+            omega (arith, t .playing .stands .sound .cursor, t .playing .ready .cursor-is),
+            e ∙ split,
+            ap (λ (ks : List ℕ). headOr 0 (ks ++ chosen q)) (e ∙ split),
+          )
           go (inr e) =
               let whole : chosen q ≡ turn ∷ drop (suc i) (chosen q) = ap (λ (n : ℕ). drop n (chosen q)) (sym (e .0)) ∙ split in
               (0, omega arith, whole, (λ m. headOr 0 (e .1 m ++ chosen q)) ∙ ap (headOr 0) whole)
@@ -251,10 +254,25 @@ plays-from q o v s p = record { simultaneous = λ m. together q o v s m p; seque
 pub same-boards : (q : Cut) (v : ℕ) (at at′ : ℕ → State) → ((n : ℕ) → at n ≡ at′ n) → OnItsOutput q v at → OnItsOutput q v at′
 same-boards q v at at′ e h = subst (OnItsOutput q v) (λ i n. e n i) h
 
+module _ (q : Cut) (s : State) (x : Settings) (v w : ℕ) (two : List Event) (o : Ordered q) (h : Equipped q s x) (p : Playable v w)
+    (e : EitherOrder v w two) where
+  -- the board when the cut is loaded, and the two writes on it
+  abbrev loaded : State
+  loaded = after (powered s x) (events q)
+
+  both : BothDone (q .mask) v (eofOnLast (numbers q)) loaded two
+  both = two-done x (q .mask) v w p _ loaded (cut-loaded q s x o h) two e
+
+  pub plays-fine : (n : ℕ) → Fine (outcomes (powered s x) (events q ++ (two ++ ticks n)))
+  plays-fine n =
+      fine-append (powered s x) (events q) (two ++ ticks n) ((cut-stored q s x o h) .fine)
+      (fine-append loaded two (ticks n) (both .fine) (ticks-fine n (after loaded two) (both .playing .stands)))
+
+  pub plays-on : OnItsOutput q v (λ n. after (powered s x) (events q ++ (two ++ ticks n)))
+  plays-on =
+      same-boards q v _ _
+      (λ n. sym (after-append (powered s x) (events q) (two ++ ticks n) ∙ after-append loaded two (ticks n)))
+      (plays-from q o v (after loaded two) (both .playing))
+
 pub channel-plays : Channel-plays
-channel-plays q s x v w two o h p e =
-    let b : State = powered s x in
-    let playing = two-playing x (q .mask) v w p _ (after b (events q)) (cut-loaded q s x o h) two e in
-    same-boards q v _ _
-    (λ n. sym (after-append b (events q) (two ++ ticks n) ∙ after-append (after b (events q)) two (ticks n)))
-    (plays-from q o v (after (after b (events q)) two) playing)
+channel-plays = plays-on

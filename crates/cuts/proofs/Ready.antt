@@ -4,7 +4,7 @@
 use Prim.Native.Nat.{ℕ}
 use mathlib.Core.Path.{_≡_, refl, sym, ap, subst, _∙_}
 use mathlib.Core.Bool.{Bool, true, false, not, _&&_, cond, and-false}
-use mathlib.Core.List.{List, [], _∷_}
+use mathlib.Core.List.{List}
 use native.Mathlib.Omega.{arith}
 use lib.ListN.{length}
 use Rattle.rules.specs.declared.Settings.{Settings}
@@ -17,13 +17,13 @@ use Rattle.rules.specs.Clocks.{Play, only, clockReady, clockAccepted, onOutside
 use Rattle.rules.specs.Writes.{initial, cursorOf, calibrationOf, writeControl, bufferOf, tried, writeBuffer, onWrite}
 use Rattle.rules.specs.Play.{play}
 use Rattle.rules.specs.Step.{played}
-use Rattle.rules.specs.Session.{after}
+use Rattle.rules.specs.Session.{outcomes, after}
 use Rattle.rules.specs.Laws.Soundness.{Stands}
 use Rattle.rules.specs.Laws.Refusals.{Offset}
 use Rattle.rules.proofs.Choice.{either, cond-false}
 use Rattle.laws.proofs.Places.{onList}
-use Rattle.cuts.specs.Plays.{Playable, EitherOrder, controlFirst, bufferFirst}
-use Rattle.cuts.proofs.Passing.{Done, event-done, write-open}
+use Rattle.cuts.specs.Plays.{Fine, none, next, Playable, EitherOrder, controlFirst, bufferFirst}
+use Rattle.cuts.proofs.Passing.{Done, event-done, write-open, no-loss}
 use Rattle.cuts.proofs.Loading.{masked, Loading}
 
 -- ---- What a tick looks at
@@ -78,6 +78,11 @@ pub record Playing (mask v : ℕ) (vs : List ℕ) (cursor : ℕ) (s : State) : T
   pub stands : Stands s
   pub ready : Ready mask v cursor (s .board .core)
   pub values : stored s ≡ vs
+
+-- two writes on the board s: they are accepted, and leave such a board
+pub record BothDone (mask v : ℕ) (vs : List ℕ) (s : State) (two : List Event) : Type 0 where
+  pub fine : Fine (outcomes s two)
+  pub playing : Playing mask v vs 0 (after s two)
 
 -- a cursor that is 0 is 0 in either mode
 cursor-zero : (was is : Bool) → cursorOf was is 0 ≡ 0
@@ -138,21 +143,27 @@ module _ (x : Settings) (mask v w : ℕ) (p : Playable v w) where
 
   -- in either order
   module _ (vs : List ℕ) (s : State) (l : Loading x mask vs s) where
-    pub two-playing : (two : List Event) → EitherOrder v w two → Playing mask v vs 0 (after s two)
-    unfolding after onList initial bufferOf writeControl
-    two-playing _ controlFirst =
+    pub two-done : (two : List Event) → EitherOrder v w two → BothDone mask v vs s two
+    unfolding after outcomes onList initial bufferOf writeControl
+    two-done _ controlFirst =
         let a = control-done s (l .stands) _ (l .core) refl in
         let b = buffer-done _ (a .stands) _ (a .core) still in
         record {
-          stands = b .stands;
-          ready = subst (Ready mask v 0) (sym (b .core)) control-then-buffer;
-          values = b .values ∙ a .values ∙ l .values;
+          playing = record {
+            stands = b .stands;
+            ready = subst (Ready mask v 0) (sym (b .core)) control-then-buffer;
+            values = b .values ∙ a .values ∙ l .values;
+          };
+          fine = next (a .refusal) (no-loss (a .fate)) (next (b .refusal) (no-loss (b .fate)) none);
         }
-    two-playing _ bufferFirst =
+    two-done _ bufferFirst =
         let a = buffer-done s (l .stands) _ (l .core) refl in
         let b = control-done _ (a .stands) _ (a .core) refl in
         record {
-          stands = b .stands;
-          ready = subst (Ready mask v 0) (sym (b .core)) buffer-then-control;
-          values = b .values ∙ a .values ∙ l .values;
+          playing = record {
+            stands = b .stands;
+            ready = subst (Ready mask v 0) (sym (b .core)) buffer-then-control;
+            values = b .values ∙ a .values ∙ l .values;
+          };
+          fine = next (a .refusal) (no-loss (a .fate)) (next (b .refusal) (no-loss (b .fate)) none);
         }

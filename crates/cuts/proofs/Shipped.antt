@@ -1,5 +1,5 @@
 -- What is written is read, and what is shipped plays (specs/Laws, Cut-read; specs/Plays, Shipped-plays).
-use Prim.Native.Nat.{ℕ, zero, suc, _+_, _^_, _≤_, _<_}
+use Prim.Native.Nat.{ℕ, zero, suc, _+_, _^_, _<_}
 use mathlib.Core.Path.{_≡_, refl, sym, ap, subst, _∙_}
 use mathlib.Core.List.{List, [], _∷_, _++_, map, append-assoc}
 use native.Mathlib.Omega.{arith}
@@ -10,21 +10,24 @@ use Rattle.rules.specs.declared.Event.{Event}
 use Rattle.rules.specs.declared.Event.the-variants.{PowerUp as powerUp, Write as write}
 use Rattle.rules.specs.Record.{State, valueSpan, start}
 use Rattle.rules.specs.Refusals.{refusal}
-use Rattle.rules.specs.Session.{after}
+use Rattle.rules.specs.Session.{outcomes, after}
+use Rattle.rules.proofs.Steps.{refusal-answered}
 use Rattle.rules.proofs.Refusals.{power-up-accepted}
+use Rattle.laws.proofs.Loads.{fate-none}
 use Rattle.files.specs.declared.End.the-variants.{File}
 use Rattle.files.specs.File.{Session, session}
 use Rattle.files.specs.Bytes.{bytesOf, recordsOf, fileOf, Fits, AllFit, none, next}
 use Rattle.files.specs.WritingLaws.{Reread}
 use Rattle.files.proofs.Written.{file-read}
 use Rattle.files.proofs.WriteRead.{file-stands, file-reread}
-use Rattle.cuts.specs.Cut.{Cut, numbers, eofOnLast, events, cutRefusal, cutEnd, cutOutput}
+use Rattle.cuts.specs.Cut.{Cut, numbers, eofOnLast, events, cutRefusal, cutOutput}
 use Rattle.cuts.specs.Laws.{Sixteen, Cut-read}
-use Rattle.cuts.specs.Plays.{Equipped, Ordered, powered, Playable, EitherOrder, controlFirst, bufferFirst, ticks, OnItsOutput, shipped, cutBytes, Shipped-plays}
+use Rattle.cuts.specs.Plays.{Equipped, Ordered, Fine, next as then, Playable, EitherOrder, controlFirst, bufferFirst, ticks, shipped, cutBytes, PlaysRead, Shipped-plays}
 use Rattle.cuts.proofs.Numbers.{mask-small, numbers-small}
 use Rattle.cuts.proofs.Given.{GoodCut, good-cut, cut-ends, cut-leaves}
 use Rattle.cuts.proofs.Loading.{marked-small}
-use Rattle.cuts.proofs.Plays.{same-boards, channel-plays}
+use Rattle.cuts.proofs.Passing.{no-loss}
+use Rattle.cuts.proofs.Plays.{same-boards, plays-fine, channel-plays}
 
 -- ---- Fields that fit
 
@@ -111,14 +114,26 @@ module _ (q : Cut) (x : Settings) (v w : ℕ) (two : List Event) (m out : List �
       (next (power-up-fits (start m) x (h .accepted))
       (both-fit (events q) (two ++ ticks n) (cut-fits q sixteen _ _ g) (both-fit two (ticks n) (two-fit v w two v-fits w-fits e) (ticks-fit n))))
 
-  file-after : (n : ℕ)
-      → after (start m) ((session (shipped x (cutBytes q out place) two n)) .events) ≡ after (powered (start m) x) (events q ++ (two ++ ticks n))
-  unfolding after
-  file-after n = ap (λ (y : Session). after (start m) (y .events)) (file-session n)
+  o : Ordered q
+  o = ordered q sixteen _ _ g
+
+  -- what holds of the events holds of the file
+  read-as : (P : List Event → Type 0) (n : ℕ) → P (all n) → P ((session (shipped x (cutBytes q out place) two n)) .events)
+  read-as P n h = subst (λ (y : Session). P (y .events)) (sym (file-session n)) h
+
+  file-plays : PlaysRead q v m (shipped x (cutBytes q out place) two)
+  unfolding after outcomes
+  file-plays =
+      record {
+        whole = λ n. ap (λ (y : Session). y .end) (file-session n);
+        fine = λ n.
+            read-as (λ (es : List Event). Fine (outcomes (start m) es)) n
+            (then (refusal-answered (start m) (powerUp x) ∙ h .accepted) (no-loss (fate-none (start m) (powerUp x) (λ z. z)))
+            (plays-fine q (start m) x v w two o h p e n));
+        plays =
+            same-boards q v _ _ (λ n. sym (ap (λ (y : Session). after (start m) (y .events)) (file-session n)))
+            (channel-plays q (start m) x v w two o h p e);
+      }
 
 pub shipped-plays : Shipped-plays
-shipped-plays q x v w two m out place sixteen z h p a b e = (
-  λ n. ap (λ (y : Session). y .end) (file-session q x v w two m out place sixteen z h p a b e n),
-  same-boards q v _ _ (λ n. sym (file-after q x v w two m out place sixteen z h p a b e n))
-      (channel-plays q (start m) x v w two (ordered q sixteen _ _ (g q x v w two m out place sixteen z h p a b e)) h p e),
-)
+shipped-plays = file-plays

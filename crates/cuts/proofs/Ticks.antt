@@ -1,22 +1,21 @@
 -- One tick on a board that is ready: what it moves and where to, in simultaneous and in sequential mode.
-use Prim.Native.Nat.{ℕ, zero, suc, _+_, _-_, _≤_, _<_}
+use Prim.Native.Nat.{ℕ, _+_, _-_, _≤_, _<_}
 use mathlib.Core.Path.{_≡_, refl, sym, ap, subst, _∙_}
-use mathlib.Core.Logic.{_≢_, _⊎_, inl, inr}
-use mathlib.Core.Bool.{Bool, true, false, cond, false≢true}
+use mathlib.Core.Logic.{_≢_, inl}
+use mathlib.Core.Bool.{Bool, true, false, false≢true}
 use mathlib.Core.List.{List, [], _∷_, _++_}
 use native.Mathlib.Omega.{arith}
 use lib.ListN.{length, getD, drop, set, length-set}
-use lib.Seq.{getD-drop}
 use Rattle.rules.specs.declared.Event.the-variants.{Signal as signal}
 use Rattle.rules.specs.declared.Signal.the-variants.{Tick as tick}
 use Rattle.rules.specs.declared.Core.{Core}
-use Rattle.rules.specs.Bits.{bit, active, activeFrom, headOr}
-use Rattle.rules.specs.Record.{State, stored}
+use Rattle.rules.specs.Bits.{bit, activeFrom, headOr}
+use Rattle.rules.specs.Record.{State}
 use Rattle.rules.specs.Clocks.{nextChannel, targets, laid, coded}
 use Rattle.rules.specs.Step.{step}
 use Rattle.rules.specs.Laws.Closed.{Closed}
 use Rattle.rules.specs.Laws.Refused.{TickAccepted}
-use Rattle.laws.specs.Moved.{groupSize, ReadyToMove, Moves, Coding, levelAt, Among}
+use Rattle.laws.specs.Moved.{groupSize, ReadyToMove, Moves, Coding, levelAt}
 use Rattle.laws.proofs.Moved.{clock-moves}
 use Rattle.laws.proofs.Clocks.{clock-ran}
 use Rattle.laws.proofs.Targets.{targets-group}

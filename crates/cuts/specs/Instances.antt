@@ -11,7 +11,7 @@ use Rattle.rules.specs.Session.{after}
 use Rattle.laws.specs.Moved.{levelAt}
 use Rattle.files.specs.File.{session}
 use Rattle.cuts.specs.Cut.{Cut, events}
-use Rattle.cuts.specs.Plays.{Ordered, Equipped, Playable, StoredInOrder, powered, shipped, cutBytes, OnItsOutput}
+use Rattle.cuts.specs.Plays.{Ordered, Equipped, StoredInOrder, powered, shipped, cutBytes, OnItsOutput}
 use Rattle.cuts.specs.Examples.{four}
 
 -- the smallest board: a depth of 8 values, six channels; and one with all twenty

@@ -12,13 +12,12 @@ use mathlib.Core.Bool.{true}
 use mathlib.Core.List.{List}
 use lib.Count.{ones}
 use lib.ListN.{length, getD}
-use Rattle.rules.specs.declared.Event.{Event}
 use Rattle.rules.specs.declared.Event.the-variants.{Read as read, Write as write}
 use Rattle.rules.specs.Bits.{bit}
 use Rattle.laws.specs.Moved.{ActiveAscending}
 use Rattle.files.specs.Bytes.{fileOf}
 use Rattle.files.specs.WritingLaws.{Reread}
-use Rattle.cuts.specs.Cut.{Cut, sample, chosen, groups, numbers, eofOnLast, events, cutRefusal, cutEnd, cutOutput}
+use Rattle.cuts.specs.Cut.{Cut, chosen, groups, numbers, eofOnLast, events, cutRefusal, cutEnd, cutOutput}
 
 -- ---- What is taken
 

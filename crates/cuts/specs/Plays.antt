@@ -1,7 +1,7 @@
 -- What a client who orders an extract may rely on: channel k of a group plays on output k.
 --   Cut-stored      the cut's events, right after an accepted power-up, store the chosen numbers in recording order
 --   Channel-plays   from there, tick by tick: each chosen channel's numbers on the output of its own number, and all others hold
---   Shipped-plays   the same of the bytes that are shipped
+--   Shipped-plays   the same of the bytes that are shipped, read and run; all events are accepted, and nothing is lost
 -- They hold for every fitted code whose depth holds the numbers: a deeper board is an instance, and needs no demand 3.
 use Prim.Native.Nat.{ℕ, suc, _+_, _*_, _≤_, _<_, _^_}
 use mathlib.Core.Path.{_≡_}
@@ -119,7 +119,13 @@ shipped x cut two n = 1 ∷ bytesOf (powerUp x) ++ (cut ++ recordsOf (two ++ tic
 abbrev pub cutBytes : Cut → List ℕ → ℕ → List ℕ
 cutBytes q out place = slice (suc place) (cutEnd q (length out) place) (cutOutput q out place)
 
--- Read and run over every memory that is at least as long as the depth.
+-- of a file with n ticks, read and run over the memory m
+pub record PlaysRead (q : Cut) (v : ℕ) (m : List ℕ) (file : ℕ → List ℕ) : Type 0 where
+  pub whole : (n : ℕ) → (session (file n)) .end ≡ File
+  pub fine : (n : ℕ) → Fine (outcomes (start m) ((session (file n)) .events))
+  pub plays : OnItsOutput q v (λ n. after (start m) ((session (file n)) .events))
+
+-- Over every memory that is at least as long as the depth: a shorter one does not accept the power-up.
 abbrev pub Shipped-plays : Type 0
 Shipped-plays =
     (q : Cut) (x : Settings) (v w : ℕ) (two : List Event) (m out : List ℕ) (place : ℕ)
@@ -130,5 +136,4 @@ Shipped-plays =
     → v < 2 ^ 32
     → w < 2 ^ 32
     → EitherOrder v w two
-    → ((n : ℕ) → (session (shipped x (cutBytes q out place) two n)) .end ≡ File)
-    × OnItsOutput q v (λ n. after (start m) ((session (shipped x (cutBytes q out place) two n)) .events))
+    → PlaysRead q v m (shipped x (cutBytes q out place) two)

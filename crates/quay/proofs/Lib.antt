@@ -1,2 +1,2 @@
--- What the function promises determines its outcome.
+-- What a function promises determines its outcome.
 pub mod Unique

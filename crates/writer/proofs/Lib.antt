@@ -2,6 +2,11 @@
 pub mod RowsOn
 pub mod GoodRows
 pub mod Widths
+pub mod Ends
 pub mod Loops
 pub mod Refusing
+pub mod Orders
+pub mod Marks
+pub mod Loading
+pub mod Cutting
 pub mod Unique

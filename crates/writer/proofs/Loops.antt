@@ -15,6 +15,7 @@ use Rattle.files.proofs.Lengths.{length-small}
 use Rattle.files.proofs.Joined.{then, renamed, piece-length}
 use Rattle.files.proofs.WritesGiven.{good-call}
 use Rattle.writer.specs.RowsFrom.{rowsFrom, rowAt, recordsFrom, JudgesRow, Judges}
+use Rattle.writer.proofs.Ends.{none-left}
 use Rattle.writer.proofs.GoodRows.{row-length}
 use Rattle.writer.proofs.RowsOn.{from-start, file-start, none-bad-over, records-over, records-next, passed-over, decides, none-bad-here}
 
@@ -135,4 +136,4 @@ pub putting-over : (xs out₀ : List ℕ) (place : ℕ) (out₁ : List ℕ) (to�
     → length xs ≤ at
     → Piece out₀ place (fileOf (eventsIn xs)) out to
 putting-over xs out₀ place out₁ to₁ out to at p s l =
-    renamed (file-start xs) (then p (s .whole out to (renamed (sym (records-over xs at l)) (record { place = omega arith; text = refl }))))
+    renamed (file-start xs) (then p (s .whole out to (none-left (records-over xs at l))))

@@ -1,6 +1,6 @@
 -- Each promise says what every part of the outcome is: two that do are equal.
 use Rattle.rules.proofs.Equal.{determined}
-use Rattle.writer.specs.Unique.{Row-unique, Writes-unique}
+use Rattle.writer.specs.Unique.{Row-unique, Writes-unique, Cuts-unique}
 
 pub row-unique : Row-unique
 row-unique e r r′ p q = determined (p .told) (q .told)
@@ -9,4 +9,10 @@ pub writes-unique : Writes-unique
 writes-unique xs out place r r′ o o′ p q = (
   λ i. record { refusal = determined (p .refusal) (q .refusal) i; place = determined (p .place-after) (q .place-after) i },
   determined (p .output) (q .output),
+)
+
+pub cuts-unique : Cuts-unique
+cuts-unique q out place r r′ o o′ p k = (
+  λ i. record { refusal = determined (p .refusal) (k .refusal) i; place = determined (p .place-after) (k .place-after) i },
+  determined (p .output) (k .output),
 )

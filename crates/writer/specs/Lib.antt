@@ -1,3 +1,4 @@
 pub mod RowsFrom
+pub mod Cutting
 pub mod Promises
 pub mod Unique

@@ -1,4 +1,4 @@
--- The promises of the public functions: each fixes the answer, and that of the writer every byte of the output.
+-- The promises of the public functions: each fixes the answer, and those of the writer and the cutter every byte of the output.
 use Prim.Native.Nat.{ℕ}
 use mathlib.Core.Path.{_≡_}
 use mathlib.Core.List.{List}
@@ -6,6 +6,7 @@ use lib.ListN.{length}
 use Rattle.rules.specs.declared.Event.{Event}
 use Rattle.files.specs.Row.{rowOf}
 use Rattle.files.specs.Writing.{writeRefusal, endPlace, outputAfter}
+use Rattle.cuts.specs.Cut.{Cut, cutRefusal, cutEnd, cutOutput}
 use Rattle.writer.specs.declared.Written.{Written}
 
 pub record RowTold (e : Event) (r : List ℕ) : Type 0 where
@@ -16,3 +17,14 @@ pub record Writes (xs out : List ℕ) (place : ℕ) (r : Written) (out′ : List
   pub refusal : r .refusal ≡ writeRefusal xs (length out) place
   pub place-after : r .place ≡ endPlace xs (length out) place
   pub output : out′ ≡ outputAfter xs out place
+
+-- the order of a cut: the recording, the channels in a group, the first group and the last, and the mask of the chosen channels
+abbrev pub cutOf : List ℕ → ℕ → ℕ → ℕ → ℕ → Cut
+cutOf recording channels first last mask =
+    record { recording = recording; channels = channels; first = first; last = last; mask = mask }
+
+-- cut(q, out, place) = r, and out is out′ afterwards
+pub record Cuts (q : Cut) (out : List ℕ) (place : ℕ) (r : Written) (out′ : List ℕ) : Type 0 where
+  pub refusal : r .refusal ≡ cutRefusal q (length out) place
+  pub place-after : r .place ≡ cutEnd q (length out) place
+  pub output : out′ ≡ cutOutput q out place

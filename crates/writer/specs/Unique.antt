@@ -3,8 +3,9 @@ use Prim.Native.Nat.{ℕ}
 use mathlib.Core.Path.{_≡_}
 use mathlib.Core.List.{List}
 use Rattle.rules.specs.declared.Event.{Event}
+use Rattle.cuts.specs.Cut.{Cut}
 use Rattle.writer.specs.declared.Written.{Written}
-use Rattle.writer.specs.Promises.{RowTold, Writes}
+use Rattle.writer.specs.Promises.{RowTold, Writes, Cuts}
 
 abbrev pub Row-unique : Type 0
 Row-unique = (e : Event) (r r′ : List ℕ) → RowTold e r → RowTold e r′ → r ≡ r′
@@ -14,4 +15,11 @@ Writes-unique =
     (xs out : List ℕ) (place : ℕ) (r r′ : Written) (o o′ : List ℕ)
     → Writes xs out place r o
     → Writes xs out place r′ o′
+    → (r ≡ r′) × (o ≡ o′)
+
+abbrev pub Cuts-unique : Type 0
+Cuts-unique =
+    (q : Cut) (out : List ℕ) (place : ℕ) (r r′ : Written) (o o′ : List ℕ)
+    → Cuts q out place r o
+    → Cuts q out place r′ o′
     → (r ≡ r′) × (o ≡ o′)

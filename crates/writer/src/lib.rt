@@ -1,13 +1,17 @@
-// Session files written (02, request 2026-01): rows of six numbers, one for each event, become a version 1 session in a lent output.
-// Every call takes every input: what is wrong is told by its number, and then nothing is written.
-ghost use Rattle.writer.specs.Promises.{RowTold, Writes};
+// Session files written: rows of six numbers, one for each event (02, request 2026-01), or a cut of a recording (2026-07), become a
+// version 1 session in a lent output. Every call takes every input: what is wrong is told by its number, and then nothing is written.
+ghost use Rattle.writer.specs.Promises.{RowTold, Writes, cutOf, Cuts};
 use crate::judging::refusal_of;
 use crate::kinds::kind_of;
+use crate::loads::put_cut;
+use crate::order::cut_refusal;
 use crate::records::put_session;
 use rules::Event;
 
 mod judging;
 mod kinds;
+mod loads;
+mod order;
 mod pieces;
 mod records;
 mod rows;
@@ -46,5 +50,33 @@ pub fn write(rows: &[u32], out: &mut [u8], place: usize) -> Written
     Written {
         refusal: 0,
         place: end,
+    }
+}
+
+// 02: "Given a recording as a lent slice of 16-bit numbers, group after group, with the number of channels in a group, cut groups a to b
+// (from 0, both taken) and a chosen subset of channels, and write, as 2026-01 does, the session that loads them". Bit k of the mask is
+// channel k of a group. The order is judged first, and written only where the whole session fits.
+pub fn cut(
+    recording: &[u16],
+    channels: u32,
+    first: usize,
+    last: usize,
+    mask: u32,
+    out: &mut [u8],
+    place: usize,
+) -> Written
+    ensures { λ r. ⌜ Cuts (cutOf (now (recording .entry)) channels first last mask) (now (out .entry)) place r (now (out .exit)) ⌝ }
+{
+    let n = cut_refusal(recording, channels, first, last, mask, out.len(), place);
+    if n == 0 {
+        let end = put_cut(recording, channels, first, last, mask, out, place);
+        return Written {
+            refusal: 0,
+            place: end,
+        };
+    }
+    Written {
+        refusal: n,
+        place: 0,
     }
 }

@@ -3,6 +3,7 @@ ghost use Prim.Native.Nat.{_+_, _%_, _≤_, _<_};
 ghost use mathlib.Core.Path.{_≡_};
 ghost use mathlib.Core.List.{[], _∷_, _++_};
 ghost use lib.ListN.{length};
+ghost use Rattle.rules.specs.declared.Event.the-variants.{Write as write};
 ghost use Rattle.files.specs.File.{lengthOf};
 ghost use Rattle.files.specs.Bytes.{two, four, fieldsOf, bytesOf, fileOf};
 ghost use Rattle.files.specs.Row.{eventOfRow};
@@ -30,6 +31,15 @@ fn put_access(out: &mut [u8], at: usize, offset: u32, value: u32) -> usize
 {
     let p = put_one(out, at, offset);
     put_four(out, p, value)
+}
+
+// The record of a write.
+pub(crate) fn put_write(out: &mut [u8], at: usize, offset: u32, value: u32) -> usize
+    requires { ⌜ (offset < 256) × (at + 8 ≤ length (now out)) ⌝ }
+    ensures { λ r. ⌜ Piece (now (out .entry)) at (bytesOf (write offset value)) (now (out .exit)) r ⌝ }
+{
+    let p = put_head(out, at, 2);
+    put_access(out, p, offset, value)
 }
 
 // 01: "power-up (d, range, filter, kit, firmware in two bytes)"

@@ -1,11 +1,12 @@
 -- `put_fields` meets its contract: by the kind, the fields of a good row are those of its event.
-use mathlib.Core.Path.{_≡_, refl, ap}
+use mathlib.Core.Path.{_≡_, sym, ap}
 use native.Mathlib.Omega.{arith}
 use lib.ListN.{length}
 use mir.Syntax.{w32}
 use borrow.Kind.Array.{eInt, good-length}
 use borrow.Author.Needs.{needs}
 use Rattle.files.proofs.Joined.{renamed}
+use Rattle.writer.proofs.Ends.{none-left}
 use Rattle.writer.proofs.GoodRows.{power-up-fields, write-fields, read-fields, signal-fields}
 use Rattle.writer.proofs.records.put_fields.Statement.{statement}
 use Rattle.writer.proofs.records.put_fields.Tie as tie
@@ -87,8 +88,7 @@ returns-4 : tie.Need-returns-4
 returns-4 c =
     let s = c .before .before in
     let m = c .match in
-    renamed (signal-fields (s .args .t3) (six-long s) (s .pre .0) (m .rest .0 .0 .1) (m .rest .0 .1) (m .rest .1))
-    (record { place = omega arith; text = refl })
+    none-left (sym (signal-fields (s .args .t3) (six-long s) (s .pre .0) (m .rest .0 .0 .1) (m .rest .0 .1) (m .rest .1)))
 
 pub put-fields-spec : {M : Type 1} → statement M
 put-fields-spec =
