@@ -7,14 +7,14 @@ use Rattle.rules.specs.Refusals.{firstOf}
 use Rattle.rules.proofs.Bench.{alike, alike-equal}
 use Rattle.files.specs.Bytes.{recordsOf, fileOf}
 use Rattle.cuts.specs.Cut.{sample, eofOnLast, numbersFrom, groups, numbers, events, isGrouped, isChoice, cutRefusal, cutEnd, cutOutput}
-use Rattle.cuts.specs.Examples.{four, fourNumbers, fourWritten, Cut-shown, Refusals-shown}
+use Rattle.cuts.specs.Examples.{cutOfFour, fourNumbers, fourWritten, Cut-shown, Refusals-shown}
 
 -- as tests: one that does not hold is told at once
-chosen-true : alike (numbers four) fourNumbers ≡ true
+chosen-true : alike (numbers cutOfFour) fourNumbers ≡ true
 unfolding alike active sample eofOnLast numbersFrom groups numbers
 chosen-true = refl
 
-output-true : alike (cutOutput four (replicate 44 0xEE) 2) fourWritten ≡ true
+output-true : alike (cutOutput cutOfFour (replicate 44 0xEE) 2) fourWritten ≡ true
 unfolding alike active all firstOf recordsOf fileOf sample eofOnLast numbersFrom groups numbers events isGrouped isChoice cutRefusal cutOutput
 output-true = refl
 
@@ -22,10 +22,10 @@ pub cut-shown : Cut-shown
 unfolding active all firstOf recordsOf fileOf sample eofOnLast numbersFrom groups numbers events isGrouped isChoice cutRefusal cutEnd
 cut-shown =
     record {
-      chosen = alike-equal (numbers four) fourNumbers chosen-true;
+      chosen = alike-equal (numbers cutOfFour) fourNumbers chosen-true;
       refusal = refl;
       end = refl;
-      output = alike-equal (cutOutput four (replicate 44 0xEE) 2) fourWritten output-true;
+      output = alike-equal (cutOutput cutOfFour (replicate 44 0xEE) 2) fourWritten output-true;
     }
 
 pub refusals-shown : Refusals-shown

@@ -122,15 +122,15 @@ bit-from n v l =
 -- ---- One of the lines is always given
 
 module _ (q : Cut) (n place : ℕ) where
-  abbrev Told : ℕ → Type 0
-  Told = CutGiven q n place
+  abbrev TellsOf : ℕ → Type 0
+  TellsOf = CutGiven q n place
 
-  pub not-grouped : isGrouped q ≡ false → Told 22
+  pub not-grouped : isGrouped q ≡ false → TellsOf 22
   unfolding isGrouped all
   not-grouped h = go (leb 1 (q .channels)) refl (leb (q .channels) 20) refl (eqb (length (q .recording) % q .channels) 0) refl h
     where
       go : (a : Bool) → leb 1 (q .channels) ≡ a → (b : Bool) → leb (q .channels) 20 ≡ b
-          → (c : Bool) → eqb (length (q .recording) % q .channels) 0 ≡ c → all (a ∷ b ∷ c ∷ []) ≡ false → Told 22
+          → (c : Bool) → eqb (length (q .recording) % q .channels) 0 ≡ c → all (a ∷ b ∷ c ∷ []) ≡ false → TellsOf 22
       go false e b f c g _ = let l = leb-false 1 (q .channels) e in badGroup (inl (omega arith))
       go true e false f c g _ = badGroup (inr (leb-false (q .channels) 20 f))
       go true e true f false g _ =
@@ -138,29 +138,29 @@ module _ (q : Cut) (n place : ℕ) where
           (λ k w. eqb-false _ 0 g (ap (λ (m : ℕ). m % q .channels) w ∙ mul-mod-left k (q .channels)))
       go true e true f true g h = absurd (true≢false h)
 
-  pub not-chosen : Grouped q (count q) → isChoice q ≡ false → Told 23
+  pub not-chosen : Grouped q (count q) → isChoice q ≡ false → TellsOf 23
   unfolding isChoice all
   not-chosen g h =
       go (eqb (q .mask) 0) refl (ltb (q .mask) (2 ^ q .channels)) refl (leb (q .first) (q .last)) refl (ltb (q .last) (count q)) refl h
     where
       go : (a : Bool) → eqb (q .mask) 0 ≡ a → (b : Bool) → ltb (q .mask) (2 ^ q .channels) ≡ b → (c : Bool) → leb (q .first) (q .last) ≡ c
-          → (d : Bool) → ltb (q .last) (count q) ≡ d → all (not a ∷ b ∷ c ∷ d ∷ []) ≡ false → Told 23
+          → (d : Bool) → ltb (q .last) (count q) ≡ d → all (not a ∷ b ∷ c ∷ d ∷ []) ≡ false → TellsOf 23
       go true e b f c i d j _ = empty _ g (eqb-true (q .mask) 0 e)
       go false e false f c i d j _ = let r = bit-from (q .channels) (q .mask) (ltb-false _ _ f) in outside _ g (r .0) (r .1) (r .2)
       go false e true f false i d j _ = reversed _ g (leb-false _ _ i)
       go false e true f true i false j _ = beyond _ g (ltb-false _ _ j)
       go false e true f true i true j h = absurd (true≢false h)
 
-  given : Told (cutRefusal q n place)
+  given : TellsOf (cutRefusal q n place)
   unfolding cutRefusal firstOf
   given =
-      cases Told (not (isGrouped q)) (λ h. not-grouped (not-true _ (not-both _ h))) (λ h.
+      cases TellsOf (not (isGrouped q)) (λ h. not-grouped (not-true _ (not-both _ h))) (λ h.
       let g = grouped-to q (not-not _ h) in
-      cases Told (not (isChoice q)) (λ h. not-chosen g (not-true _ (not-both _ h))) (λ h.
+      cases TellsOf (not (isChoice q)) (λ h. not-chosen g (not-true _ (not-both _ h))) (λ h.
       let c = choice-to q (not-not _ h) in
       let l = session-long q (count q) g c in
-      cases Told (ltb n place) (λ t. pastEnd _ g c (ltb-true _ _ t)) (λ u.
-      cases Told (ltb n (place + length (fileOf (events q))))
+      cases TellsOf (ltb n place) (λ t. pastEnd _ g c (ltb-true _ _ t)) (λ u.
+      cases TellsOf (ltb n (place + length (fileOf (events q))))
       (λ t. tooLong _ g c (ltb-false _ _ u) (omega (arith, l, ltb-true n (place + length (fileOf (events q))) t)))
       (λ t. done _ g c (omega (arith, l, ltb-false n (place + length (fileOf (events q))) t))))))
 
@@ -187,7 +187,7 @@ module _ (q : Cut) (n place : ℕ) where
           cond-false _ _ _ (ap not (grouped-from q g h))
           ∙ cond-false _ _ _ (ap not (choice-from q (subst (GoodChoice q) (sym (grouped-count q g h)) c)))
 
-  number : (m : ℕ) → Told m → cutRefusal q n place ≡ m
+  number : (m : ℕ) → TellsOf m → cutRefusal q n place ≡ m
   number m (badGroup (inl e)) = bad-groups (λ g. omega (arith, g .some, e))
   number m (badGroup (inr l)) = bad-groups (λ g. omega (arith, g .most, l))
   number m (partGroup l f) = bad-groups (λ g. f (count q) (g .whole))

@@ -18,8 +18,8 @@ use Rattle.laws.specs.Moved.{Coding, levelAt}
 use Rattle.cuts.specs.Cut.{Cut, sample, chosen, eofOnLast, numbersFrom, groups, numbers, events, isGrouped, isChoice, cutRefusal}
 use Rattle.cuts.specs.Laws.{Sixteen}
 use Rattle.cuts.specs.Plays.{Ordered, Equipped, Playable, controlFirst, bufferFirst, OnItsOutput}
-use Rattle.cuts.specs.Examples.{small, four}
-use Rattle.cuts.specs.Instances.{six, twenty, lent, wide, eight, together, inTurn, played, Cuts-met}
+use Rattle.cuts.specs.Examples.{small, cutOfFour}
+use Rattle.cuts.specs.Instances.{six, twenty, leftOver, wide, cutOfEight, together, inTurn, shippedBoard, Cuts-met}
 use Rattle.cuts.proofs.Given.{bits-inside, good-cut}
 use Rattle.cuts.proofs.Loading.{cut-stored}
 use Rattle.cuts.proofs.Shipped.{shipped-plays}
@@ -41,8 +41,8 @@ ordered q s n z =
     let g = good-cut q n 0 z in
     record { count = g .count; grouped = g .grouped; choice = g .choice; sixteen = sixteen (q .recording) s }
 
-equipped : (q : Cut) (x : Settings) → refusal (start lent) (powerUp x) ≡ 0 → ltb (q .mask) (2 ^ channels (x .kit)) ≡ true
-    → leb (length (numbers q)) (depthOf (x .fitted)) ≡ true → Equipped q (start lent) x
+equipped : (q : Cut) (x : Settings) → refusal (start leftOver) (powerUp x) ≡ 0 → ltb (q .mask) (2 ^ channels (x .kit)) ≡ true
+    → leb (length (numbers q)) (depthOf (x .fitted)) ≡ true → Equipped q (start leftOver) x
 equipped q x a m r =
     record {
       accepted = a;
@@ -50,11 +50,11 @@ equipped q x a m r =
       room = leb-true _ _ r;
     }
 
-four-good : cutRefusal four 73 0 ≡ 0
+four-good : cutRefusal cutOfFour 73 0 ≡ 0
 unfolding active all firstOf recordsOf fileOf sample eofOnLast numbersFrom groups numbers events isGrouped isChoice cutRefusal
 four-good = refl
 
-eight-good : cutRefusal eight 73 0 ≡ 0
+eight-good : cutRefusal cutOfEight 73 0 ≡ 0
 unfolding active all firstOf recordsOf fileOf sample eofOnLast numbersFrom groups numbers events isGrouped isChoice cutRefusal
 eight-good = refl
 
@@ -66,13 +66,13 @@ eight-sixteen : allSixteen wide ≡ true
 unfolding allSixteen
 eight-sixteen = refl
 
-four-equipped : Equipped four (start lent) six
+four-equipped : Equipped cutOfFour (start leftOver) six
 unfolding refusal rows settingRows firstOf depthOf channels active sample numbersFrom groups numbers
-four-equipped = equipped four six refl refl refl
+four-equipped = equipped cutOfFour six refl refl refl
 
-eight-equipped : Equipped eight (start lent) twenty
+eight-equipped : Equipped cutOfEight (start leftOver) twenty
 unfolding refusal rows settingRows firstOf depthOf channels active sample numbersFrom groups numbers
-eight-equipped = equipped eight twenty refl refl refl
+eight-equipped = equipped cutOfEight twenty refl refl refl
 
 together-plays : Playable 0x90 0x20
 together-plays =
@@ -84,54 +84,54 @@ in-turn-plays =
 
 -- ---- The theorems
 
-four-plays : OnItsOutput four 0x90 (played four six together)
+four-plays : OnItsOutput cutOfFour 0x90 (shippedBoard cutOfFour six together)
 four-plays =
-    (shipped-plays four six 0x90 0x20 together lent (replicate 73 0) 0 (sixteen small four-sixteen) four-good four-equipped together-plays
+    (shipped-plays cutOfFour six 0x90 0x20 together leftOver (replicate 73 0) 0 (sixteen small four-sixteen) four-good four-equipped together-plays
     (omega arith) (omega arith) controlFirst) .plays
 
-eight-plays : OnItsOutput eight 0x00 (played eight twenty inTurn)
+eight-plays : OnItsOutput cutOfEight 0x00 (shippedBoard cutOfEight twenty inTurn)
 eight-plays =
-    (shipped-plays eight twenty 0x00 0x20 inTurn lent (replicate 73 0) 0 (sixteen wide eight-sixteen) eight-good eight-equipped in-turn-plays
+    (shipped-plays cutOfEight twenty 0x00 0x20 inTurn leftOver (replicate 73 0) 0 (sixteen wide eight-sixteen) eight-good eight-equipped in-turn-plays
     (omega arith) (omega arith) bufferFirst) .plays
 
 -- ---- Two levels of each
 
 -- the groups, the channels and the numbers, each by itself: where one is another, that is told at once, and no board is played for it
-four-groups : groups four ≡ 2
+four-groups : groups cutOfFour ≡ 2
 unfolding groups
 four-groups = refl
 
-eight-groups : groups eight ≡ 2
+eight-groups : groups cutOfEight ≡ 2
 unfolding groups
 eight-groups = refl
 
-eight-channels : length (chosen eight) ≡ 4
+eight-channels : length (chosen cutOfEight) ≡ 4
 unfolding active
 eight-channels = refl
 
-eight-third : getD (chosen eight) 2 0 ≡ 16
+eight-third : getD (chosen cutOfEight) 2 0 ≡ 16
 unfolding active
 eight-third = refl
 
-four-number : sample four (1 + 1) 3 ≡ 0x3003
+four-number : sample cutOfFour (1 + 1) 3 ≡ 0x3003
 unfolding sample
 four-number = refl
 
-eight-numbers : (sample eight (0 + 0) 16 ≡ 0x0110) × (sample eight (0 + 1) 16 ≡ 0x9110)
+eight-numbers : (sample cutOfEight (0 + 0) 16 ≡ 0x0110) × (sample cutOfEight (0 + 1) 16 ≡ 0x9110)
 unfolding sample
 eight-numbers = (refl, refl)
 
 -- output 16 after the third tick of the j-th group, counted from 0
-sixteen-coded : (j : ℕ) → j < 2 → Coding false (sample eight (0 + j) 16) (levelAt (played eight twenty inTurn (suc (j * 4 + 2))) 16)
+sixteen-coded : (j : ℕ) → j < 2 → Coding false (sample cutOfEight (0 + j) 16) (levelAt (shippedBoard cutOfEight twenty inTurn (suc (j * 4 + 2))) 16)
 sixteen-coded j l =
     let t = (eight-plays .sequential refl) .plays j 2 (omega (arith, eight-groups)) (omega (arith, eight-channels)) in
-    subst (λ (c : ℕ). Coding false (sample eight (0 + j) 16) (levelAt (played eight twenty inTurn (suc (j * c + 2))) 16)) eight-channels
-    (subst (λ (k : ℕ). Coding false (sample eight (0 + j) k) (levelAt (played eight twenty inTurn (suc (j * length (chosen eight) + 2))) k)) eight-third t)
+    subst (λ (c : ℕ). Coding false (sample cutOfEight (0 + j) 16) (levelAt (shippedBoard cutOfEight twenty inTurn (suc (j * c + 2))) 16)) eight-channels
+    (subst (λ (k : ℕ). Coding false (sample cutOfEight (0 + j) k) (levelAt (shippedBoard cutOfEight twenty inTurn (suc (j * length (chosen cutOfEight) + 2))) k)) eight-third t)
 
 pub cuts-met : Cuts-met
 cuts-met =
-    let o = ordered four four-sixteen 73 four-good in
-    let o′ = ordered eight eight-sixteen 73 eight-good in
+    let o = ordered cutOfFour four-sixteen 73 four-good in
+    let o′ = ordered cutOfEight eight-sixteen 73 eight-good in
     let at-once = four-plays .simultaneous refl in
     let n = eight-numbers in
     let lower = (sixteen-coded 0 (omega arith)) .lower refl (omega (arith, n .0)) in
@@ -139,10 +139,10 @@ cuts-met =
     record {
       four-ordered = o;
       four-equipped = four-equipped;
-      four-stored = cut-stored four (start lent) six o four-equipped;
+      four-stored = cut-stored cutOfFour (start leftOver) six o four-equipped;
       eight-ordered = o′;
       eight-equipped = eight-equipped;
-      eight-stored = cut-stored eight (start lent) twenty o′ eight-equipped;
+      eight-stored = cut-stored cutOfEight (start leftOver) twenty o′ eight-equipped;
       four-plays = four-plays;
       eight-plays = eight-plays;
       third = (at-once .plays 1 3 (omega (arith, four-groups)) refl) .same refl ∙ omega (arith, four-number);

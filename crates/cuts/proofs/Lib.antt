@@ -4,7 +4,7 @@ pub mod Numbers
 pub mod Given
 pub mod Passing
 pub mod Loading
-pub mod Ready
+pub mod TwoWrites
 pub mod Ticks
 pub mod Order
 pub mod Plays

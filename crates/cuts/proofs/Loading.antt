@@ -1,6 +1,6 @@
 -- The cut's events right after an accepted power-up: the mask is written, and each value is stored behind the one before (specs/Plays,
 -- Cut-stored).
---   Loading s₀ vs s    the board s₀ with the mask written, after the loads of the values vs
+--   Loading x mask vs s   the board s has the settings x, the mask written, and the values vs loaded
 use Prim.Native.Nat.{ℕ, zero, suc, _+_, _%_, _^_, _≤_, _<_}
 use mathlib.Core.Path.{_≡_, refl, sym, ap, subst, _∙_}
 use mathlib.Core.Logic.{_≢_}
@@ -49,7 +49,7 @@ offset-18 = record { aligned = refl; low = omega arith }
 abbrev pub masked : Settings → ℕ → Core
 masked x mask = withOutputs (record { mask = mask; cursor = 0; levels = (initial (optionsOf x)) .outputs .levels }) (initial (optionsOf x))
 
--- the values vs are stored, and there is room for n more
+-- after the loads of the values vs
 pub record Loading (x : Settings) (mask : ℕ) (vs : List ℕ) (s : State) : Type 0 where
   pub stands : Stands s
   pub core : s .board .core ≡ masked x mask

@@ -23,7 +23,7 @@ use Rattle.laws.proofs.Places.{onList}
 use Rattle.laws.proofs.Kept.{kept, stands-fit}
 use Rattle.laws.proofs.Lasting.{stands-kept}
 use Rattle.laws.proofs.Loads.{fate-none}
-use Rattle.cuts.specs.Plays.{Fine, none, next, ticks}
+use Rattle.cuts.specs.Plays.{Fine, none, next, manyTicks}
 
 pub record Done (s : State) (e : Event) (p : Play) : Type 0 where
   pub refusal : (step s e) .answer .refusal ≡ 0
@@ -68,7 +68,7 @@ fine-append s [] fs none h = h
 fine-append s (e ∷ es) fs (next r f g) h = next r f (fine-append ((step s e) .state) es fs g h)
 
 -- ticks are never refused, and lose nothing
-pub ticks-fine : (n : ℕ) (s : State) → Stands s → Fine (outcomes s (ticks n))
+pub ticks-fine : (n : ℕ) (s : State) → Stands s → Fine (outcomes s (manyTicks n))
 unfolding outcomes
 ticks-fine zero s st = none
 ticks-fine (suc n) s st =

@@ -21,17 +21,17 @@ use Rattle.rules.proofs.Runs.{after-append}
 use Rattle.laws.specs.Moved.{Coding, levelAt, Among}
 use Rattle.laws.proofs.Among.{among-nil, among-cons}
 use Rattle.cuts.specs.Cut.{Cut, sample, chosen, groups, numbers, eofOnLast, events}
-use Rattle.cuts.specs.Plays.{Equipped, Ordered, powered, Fine, Playable, EitherOrder, ticks, Together, InTurn, OnItsOutput, Channel-plays}
+use Rattle.cuts.specs.Plays.{Equipped, Ordered, powered, Fine, Playable, EitherOrder, manyTicks, GroupByGroup, InTurn, OnItsOutput, Channel-plays}
 use Rattle.cuts.proofs.Lists.{eof-told, eof-data}
 use Rattle.cuts.proofs.Numbers.{chosen-channels, numbers-long, numbers-at}
 use Rattle.cuts.proofs.Passing.{fine-append, ticks-fine}
 use Rattle.cuts.proofs.Loading.{cut-loaded, cut-stored}
-use Rattle.cuts.proofs.Ready.{Playing, BothDone, two-done}
+use Rattle.cuts.proofs.TwoWrites.{Playing, BothDone, two-done}
 use Rattle.cuts.proofs.Ticks.{tick-moves, tick-playing, tick-given, simultaneous-targets, sequential-targets}
 use Rattle.cuts.proofs.Order.{next-from}
 
 -- one tick more comes last
-after-tick : (n : ℕ) (s : State) → after s (ticks (suc n)) ≡ (step (after s (ticks n)) (signal tick)) .state
+after-tick : (n : ℕ) (s : State) → after s (manyTicks (suc n)) ≡ (step (after s (manyTicks n)) (signal tick)) .state
 unfolding after
 after-tick zero s = refl
 after-tick (suc n) s = after-tick n ((step s (signal tick)) .state)
@@ -54,7 +54,7 @@ module _ (q : Cut) (o : Ordered q) (v : ℕ) (s : State) where
   c = length (chosen q)
 
   abbrev at : ℕ → State
-  at n = after s (ticks n)
+  at n = after s (manyTicks n)
 
   long : length vs ≡ groups q * c
   long = (eof-told (numbers q)) .long ∙ numbers-long q
@@ -115,7 +115,7 @@ module _ (q : Cut) (o : Ordered q) (v : ℕ) (s : State) where
         (tick-moves (q .mask) v _ 0 x p some (enough j x l p)) .hold k
         (λ a. true≢false (sym ((chosen-channels q (o .count) (o .grouped) (o .choice)) .active k .0 (subst (Among k) (all-targets j x p) a)) ∙ t))
 
-    together : Together q (bit 4 v) at
+    together : GroupByGroup q (bit 4 v) at
     together =
         record {
           plays = λ j k l t.
@@ -247,7 +247,7 @@ module _ (q : Cut) (o : Ordered q) (v : ℕ) (s : State) where
 
 -- ---- From the power-up on
 
-pub plays-from : (q : Cut) (o : Ordered q) (v : ℕ) (s : State) → Playing (q .mask) v (eofOnLast (numbers q)) 0 s → OnItsOutput q v (λ n. after s (ticks n))
+pub plays-from : (q : Cut) (o : Ordered q) (v : ℕ) (s : State) → Playing (q .mask) v (eofOnLast (numbers q)) 0 s → OnItsOutput q v (λ n. after s (manyTicks n))
 plays-from q o v s p = record { simultaneous = λ m. together q o v s m p; sequential = λ m. in-turn q o v s m p }
 
 -- boards that are the same play the same
@@ -263,15 +263,15 @@ module _ (q : Cut) (s : State) (x : Settings) (v w : ℕ) (two : List Event) (o 
   both : BothDone (q .mask) v (eofOnLast (numbers q)) loaded two
   both = two-done x (q .mask) v w p _ loaded (cut-loaded q s x o h) two e
 
-  pub plays-fine : (n : ℕ) → Fine (outcomes (powered s x) (events q ++ (two ++ ticks n)))
+  pub plays-fine : (n : ℕ) → Fine (outcomes (powered s x) (events q ++ (two ++ manyTicks n)))
   plays-fine n =
-      fine-append (powered s x) (events q) (two ++ ticks n) ((cut-stored q s x o h) .fine)
-      (fine-append loaded two (ticks n) (both .fine) (ticks-fine n (after loaded two) (both .playing .stands)))
+      fine-append (powered s x) (events q) (two ++ manyTicks n) ((cut-stored q s x o h) .fine)
+      (fine-append loaded two (manyTicks n) (both .fine) (ticks-fine n (after loaded two) (both .playing .stands)))
 
-  pub plays-on : OnItsOutput q v (λ n. after (powered s x) (events q ++ (two ++ ticks n)))
+  pub plays-on : OnItsOutput q v (λ n. after (powered s x) (events q ++ (two ++ manyTicks n)))
   plays-on =
       same-boards q v _ _
-      (λ n. sym (after-append (powered s x) (events q) (two ++ ticks n) ∙ after-append loaded two (ticks n)))
+      (λ n. sym (after-append (powered s x) (events q) (two ++ manyTicks n) ∙ after-append loaded two (manyTicks n)))
       (plays-from q o v (after loaded two) (both .playing))
 
 pub channel-plays : Channel-plays

@@ -22,7 +22,7 @@ use Rattle.files.proofs.Written.{file-read}
 use Rattle.files.proofs.WriteRead.{file-stands, file-reread}
 use Rattle.cuts.specs.Cut.{Cut, numbers, eofOnLast, events, cutRefusal, cutOutput}
 use Rattle.cuts.specs.Laws.{Sixteen, Cut-read}
-use Rattle.cuts.specs.Plays.{Equipped, Ordered, Fine, next as then, Playable, EitherOrder, controlFirst, bufferFirst, ticks, shipped, cutBytes, PlaysRead, Shipped-plays}
+use Rattle.cuts.specs.Plays.{Equipped, Ordered, Fine, next as then, Playable, EitherOrder, controlFirst, bufferFirst, manyTicks, shipped, cutBytes, PlaysRead, Shipped-plays}
 use Rattle.cuts.proofs.Numbers.{mask-small, numbers-small}
 use Rattle.cuts.proofs.Given.{GoodCut, good-cut, cut-ends, cut-leaves}
 use Rattle.cuts.proofs.Loading.{marked-small}
@@ -42,7 +42,7 @@ both-fit : (es fs : List Event) → AllFit es → AllFit fs → AllFit (es ++ fs
 both-fit [] fs none h = h
 both-fit (e ∷ es) fs (next f g) h = next f (both-fit es fs g h)
 
-ticks-fit : (n : ℕ) → AllFit (ticks n)
+ticks-fit : (n : ℕ) → AllFit (manyTicks n)
 ticks-fit zero = none
 ticks-fit (suc n) = next tt (ticks-fit n)
 
@@ -99,20 +99,20 @@ module _ (q : Cut) (x : Settings) (v w : ℕ) (two : List Event) (m out : List �
   g = good-cut q (length out) place z
 
   abbrev all : ℕ → List Event
-  all n = powerUp x ∷ events q ++ (two ++ ticks n)
+  all n = powerUp x ∷ events q ++ (two ++ manyTicks n)
 
   whole-file : (n : ℕ) → shipped x (cutBytes q out place) two n ≡ fileOf (all n)
   unfolding fileOf recordsOf
   whole-file n =
-      (λ i. 1 ∷ bytesOf (powerUp x) ++ (cut-records q out place z i ++ recordsOf (two ++ ticks n)))
-      ∙ (λ i. 1 ∷ bytesOf (powerUp x) ++ sym (records-append (events q) (two ++ ticks n)) i)
+      (λ i. 1 ∷ bytesOf (powerUp x) ++ (cut-records q out place z i ++ recordsOf (two ++ manyTicks n)))
+      ∙ (λ i. 1 ∷ bytesOf (powerUp x) ++ sym (records-append (events q) (two ++ manyTicks n)) i)
 
   file-session : (n : ℕ) → session (shipped x (cutBytes q out place) two n) ≡ record { events = all n; end = File }
   file-session n =
       ap session (whole-file n)
       ∙ file-read (all n)
       (next (power-up-fits (start m) x (h .accepted))
-      (both-fit (events q) (two ++ ticks n) (cut-fits q sixteen _ _ g) (both-fit two (ticks n) (two-fit v w two v-fits w-fits e) (ticks-fit n))))
+      (both-fit (events q) (two ++ manyTicks n) (cut-fits q sixteen _ _ g) (both-fit two (manyTicks n) (two-fit v w two v-fits w-fits e) (ticks-fit n))))
 
   o : Ordered q
   o = ordered q sixteen _ _ g

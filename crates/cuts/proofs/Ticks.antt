@@ -21,7 +21,7 @@ use Rattle.laws.proofs.Clocks.{clock-ran}
 use Rattle.laws.proofs.Targets.{targets-group}
 use Rattle.laws.proofs.Lasting.{stands-kept}
 use Rattle.cuts.proofs.Passing.{tick-open}
-use Rattle.cuts.proofs.Ready.{Ready, Playing}
+use Rattle.cuts.proofs.TwoWrites.{ReadyToPlay, Playing}
 
 -- the levels are as many as they were
 laid-length : (binary : Bool) (levels ks vs : List ℕ) → length (laid binary levels ks vs) ≡ length levels
@@ -94,11 +94,11 @@ module _ (mask v : ℕ) (vs : List ℕ) (cursor : ℕ) (s : State) (p : Playing 
 
 -- ---- The targets
 
-pub simultaneous-targets : (c : Core) (mask v n : ℕ) → Ready mask v n c → bit 7 v ≡ true → targets c ≡ activeFrom 0 mask
+pub simultaneous-targets : (c : Core) (mask v n : ℕ) → ReadyToPlay mask v n c → bit 7 v ≡ true → targets c ≡ activeFrom 0 mask
 unfolding targets
 simultaneous-targets c mask v n r t = rw (r .simultaneous, t) (ap (activeFrom 0) (r .mask-is))
 
-pub sequential-targets : (c : Core) (mask v n : ℕ) → Ready mask v n c → bit 7 v ≡ false
+pub sequential-targets : (c : Core) (mask v n : ℕ) → ReadyToPlay mask v n c → bit 7 v ≡ false
     → targets c ≡ headOr 0 (activeFrom n mask ++ activeFrom 0 mask) ∷ []
 unfolding targets nextChannel
 sequential-targets c mask v n r t =

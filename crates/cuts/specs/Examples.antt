@@ -17,8 +17,8 @@ abbrev pub ofSmall : ℕ → ℕ → ℕ → ℕ → Cut
 ofSmall channels first last mask = record { recording = small; channels = channels; first = first; last = last; mask = mask }
 
 -- channels 1 and 3 of the groups 1 and 2
-abbrev pub four : Cut
-four = ofSmall 4 1 2 0b1010
+abbrev pub cutOfFour : Cut
+cutOfFour = ofSmall 4 1 2 0b1010
 
 abbrev pub fourNumbers : List ℕ
 fourNumbers = 0x2001 ∷ 0x2003 ∷ 0x3001 ∷ 0x3003 ∷ []
@@ -36,10 +36,10 @@ fourWritten =
     ∷ 0xEE ∷ []
 
 pub record CutShown : Type 0 where
-  pub chosen : numbers four ≡ fourNumbers
-  pub refusal : cutRefusal four 44 2 ≡ 0
-  pub end : cutEnd four 44 2 ≡ 43
-  pub output : cutOutput four (replicate 44 0xEE) 2 ≡ fourWritten
+  pub chosen : numbers cutOfFour ≡ fourNumbers
+  pub refusal : cutRefusal cutOfFour 44 2 ≡ 0
+  pub end : cutEnd cutOfFour 44 2 ≡ 43
+  pub output : cutOutput cutOfFour (replicate 44 0xEE) 2 ≡ fourWritten
 
 abbrev pub Cut-shown : Type 0
 Cut-shown = CutShown
@@ -63,10 +63,10 @@ pub record RefusalsShown : Type 0 where
   pub groups-before-place : cutRefusal (ofSmall 5 0 0 1) 4 5 ≡ 22
   pub choice-before-place : cutRefusal (ofSmall 4 2 1 1) 4 5 ≡ 23
   pub choice-before-room : cutRefusal (ofSmall 4 0 2 0) 4 4 ≡ 23
-  pub past : cutRefusal four 40 41 ≡ 20
-  pub at-the-end : cutRefusal four 41 41 ≡ 21
-  pub one-short : cutRefusal four 41 1 ≡ 21
-  pub done : cutRefusal four 41 0 ≡ 0
+  pub past : cutRefusal cutOfFour 40 41 ≡ 20
+  pub at-the-end : cutRefusal cutOfFour 41 41 ≡ 21
+  pub one-short : cutRefusal cutOfFour 41 1 ≡ 21
+  pub done : cutRefusal cutOfFour 41 0 ≡ 0
 
 abbrev pub Refusals-shown : Type 0
 Refusals-shown = RefusalsShown

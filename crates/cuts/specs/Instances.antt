@@ -12,7 +12,7 @@ use Rattle.laws.specs.Moved.{levelAt}
 use Rattle.files.specs.File.{session}
 use Rattle.cuts.specs.Cut.{Cut, events}
 use Rattle.cuts.specs.Plays.{Ordered, Equipped, StoredInOrder, powered, shipped, cutBytes, OnItsOutput}
-use Rattle.cuts.specs.Examples.{four}
+use Rattle.cuts.specs.Examples.{cutOfFour}
 
 -- the smallest board: a depth of 8 values, six channels; and one with all twenty
 abbrev pub six : Settings
@@ -22,8 +22,8 @@ abbrev pub twenty : Settings
 twenty = record { fitted = 0; range = 0; filter = 0; kit = 2; firmware = 0 }
 
 -- eight values are left over from something else
-abbrev pub lent : List ℕ
-lent = replicate 8 0xFFFFFFFF
+abbrev pub leftOver : List ℕ
+leftOver = replicate 8 0xFFFFFFFF
 
 -- two groups of twenty channels: 0x0100 to 0x0113, and 0x9100 to 0x9113
 abbrev pub wide : List ℕ
@@ -35,8 +35,8 @@ wide =
     ∷ []
 
 -- the manual's example, "Channels 3, 16 and 18", and channel 0: eight numbers, as many as the depth
-abbrev pub eight : Cut
-eight = record { recording = wide; channels = 20; first = 0; last = 1; mask = 0x50009 }
+abbrev pub cutOfEight : Cut
+cutOfEight = record { recording = wide; channels = 20; first = 0; last = 1; mask = 0x50009 }
 
 -- offset binary, all channels of a group at once; and two's complement, one after the other, the writes the other way round
 abbrev pub together : List Event
@@ -46,23 +46,23 @@ abbrev pub inTurn : List Event
 inTurn = write 0x0C 0x20 ∷ write 0x00 0x00 ∷ []
 
 -- the board after n ticks of the file that is shipped, its cut written into an output of 73 bytes
-abbrev pub played : Cut → Settings → List Event → ℕ → State
-played q x two n = after (start lent) ((session (shipped x (cutBytes q (replicate 73 0) 0) two n)) .events)
+abbrev pub shippedBoard : Cut → Settings → List Event → ℕ → State
+shippedBoard q x two n = after (start leftOver) ((session (shipped x (cutBytes q (replicate 73 0) 0) two n)) .events)
 
 pub record Cuts-met : Type 0 where
   -- Cut-stored
-  pub four-ordered : Ordered four
-  pub four-equipped : Equipped four (start lent) six
-  pub four-stored : StoredInOrder four (powered (start lent) six)
-  pub eight-ordered : Ordered eight
-  pub eight-equipped : Equipped eight (start lent) twenty
-  pub eight-stored : StoredInOrder eight (powered (start lent) twenty)
+  pub four-ordered : Ordered cutOfFour
+  pub four-equipped : Equipped cutOfFour (start leftOver) six
+  pub four-stored : StoredInOrder cutOfFour (powered (start leftOver) six)
+  pub eight-ordered : Ordered cutOfEight
+  pub eight-equipped : Equipped cutOfEight (start leftOver) twenty
+  pub eight-stored : StoredInOrder cutOfEight (powered (start leftOver) twenty)
   -- Shipped-plays, and so Channel-plays
-  pub four-plays : OnItsOutput four 0x90 (played four six together)
-  pub eight-plays : OnItsOutput eight 0x00 (played eight twenty inTurn)
+  pub four-plays : OnItsOutput cutOfFour 0x90 (shippedBoard cutOfFour six together)
+  pub eight-plays : OnItsOutput cutOfEight 0x00 (shippedBoard cutOfEight twenty inTurn)
   -- what that says: of the first cut, channel 3 after the second tick, and channel 2, which is not chosen
-  pub third : levelAt (played four six together 2) 3 ≡ 0x3003
-  pub unchosen : levelAt (played four six together 2) 2 ≡ levelAt (played four six together 1) 2
+  pub third : levelAt (shippedBoard cutOfFour six together 2) 3 ≡ 0x3003
+  pub unchosen : levelAt (shippedBoard cutOfFour six together 2) 2 ≡ levelAt (shippedBoard cutOfFour six together 1) 2
   -- of the second, channel 16, the third one chosen, after the third tick and after the seventh
-  pub sixteenth : levelAt (played eight twenty inTurn 3) 16 ≡ 0x8110
-  pub again : levelAt (played eight twenty inTurn 7) 16 ≡ 0x1110
+  pub sixteenth : levelAt (shippedBoard cutOfEight twenty inTurn 3) 16 ≡ 0x8110
+  pub again : levelAt (shippedBoard cutOfEight twenty inTurn 7) 16 ≡ 0x1110

@@ -78,12 +78,12 @@ pub data EitherOrder (v w : ℕ) : List Event → Type 0 where
   controlFirst : EitherOrder v w (write 0x00 v ∷ write 0x0C w ∷ [])
   bufferFirst : EitherOrder v w (write 0x0C w ∷ write 0x00 v ∷ [])
 
-abbrev pub ticks : ℕ → List Event
-ticks n = replicate n (signal tick)
+abbrev pub manyTicks : ℕ → List Event
+manyTicks n = replicate n (signal tick)
 
 -- Simultaneous mode; `at n` is the board after n ticks. The tick after the j-th puts the number of channel k of the j-th group cut, counted
 -- from 0, on output k, for every chosen k, and leaves every other output.
-pub record Together (q : Cut) (binary : Bool) (at : ℕ → State) : Type 0 where
+pub record GroupByGroup (q : Cut) (binary : Bool) (at : ℕ → State) : Type 0 where
   pub plays : (j k : ℕ) → j < groups q → bit k (q .mask) ≡ true → Coding binary (sample q (q .first + j) k) (levelAt (at (suc j)) k)
   pub holds : (j k : ℕ) → j < groups q → bit k (q .mask) ≡ false → levelAt (at (suc j)) k ≡ levelAt (at j) k
   pub over : stored (at (groups q)) ≡ []
@@ -97,7 +97,7 @@ pub record InTurn (q : Cut) (binary : Bool) (at : ℕ → State) (c : ℕ) : Typ
 
 -- Channel k of a group plays on output k.
 pub record OnItsOutput (q : Cut) (v : ℕ) (at : ℕ → State) : Type 0 where
-  pub simultaneous : bit 7 v ≡ true → Together q (bit 4 v) at
+  pub simultaneous : bit 7 v ≡ true → GroupByGroup q (bit 4 v) at
   pub sequential : bit 7 v ≡ false → InTurn q (bit 4 v) at (length (chosen q))
 
 abbrev pub Channel-plays : Type 0
@@ -107,13 +107,13 @@ Channel-plays =
     → Equipped q s x
     → Playable v w
     → EitherOrder v w two
-    → OnItsOutput q v (λ n. after (powered s x) (events q ++ (two ++ ticks n)))
+    → OnItsOutput q v (λ n. after (powered s x) (events q ++ (two ++ manyTicks n)))
 
 -- ---- From bytes
 
 -- the file: 01, the record of the power-up, the cutter's bytes from its second on, those of the two writes and of n ticks
 abbrev pub shipped : Settings → List ℕ → List Event → ℕ → List ℕ
-shipped x cut two n = 1 ∷ bytesOf (powerUp x) ++ (cut ++ recordsOf (two ++ ticks n))
+shipped x cut two n = 1 ∷ bytesOf (powerUp x) ++ (cut ++ recordsOf (two ++ manyTicks n))
 
 -- the output of a call that is not refused, from the byte after the version byte to where the cutter stopped
 abbrev pub cutBytes : Cut → List ℕ → ℕ → List ℕ

@@ -14,7 +14,7 @@ use Rattle.files.proofs.Joined.{then, renamed, piece-length}
 use Rattle.cuts.specs.Cut.{Cut, sample, chosen, groups, numbersFrom, numbers, events}
 use Rattle.cuts.proofs.Given.{GoodCut, session-told}
 use Rattle.cuts.proofs.Numbers.{numbers-told}
-use Rattle.writer.specs.Cutting.{valuesOf, groupAt, loadsAt}
+use Rattle.writer.specs.Cutting.{valuesOf, groupAt, loadRecords}
 use Rattle.writer.proofs.Ends.{none-left}
 use Rattle.writer.proofs.Marks.{loads-long, loads-append, loads-over, loads-marked}
 
@@ -61,8 +61,8 @@ pub record Cutting (q : Cut) (end : ℕ) (out₀ : List ℕ) (to₀ : ℕ) (out 
   pub ends : to + 8 * length (numbersOn q group) ≡ end
   pub room : end ≤ length out
   pub whole : (o : List ℕ) (p : ℕ)
-      → Piece out to (loadsAt end to (numbersOn q group)) o p
-      → Piece out₀ to₀ (loadsAt end to₀ (numbers q)) o p
+      → Piece out to (loadRecords end to (numbersOn q group)) o p
+      → Piece out₀ to₀ (loadRecords end to₀ (numbers q)) o p
 
 module _ (q : Cut) (out₀ : List ℕ) (place : ℕ) (g : GoodCut q (length out₀) place)
     (end : ℕ) (e : end ≡ place + 9 + 8 * valuesOf (q .first) (q .last) (q .mask))
@@ -119,7 +119,7 @@ module _ {q : Cut} {n place : ℕ} (g : GoodCut q n place) {end : ℕ} {out₀ :
   pub group-fits : to + 8 * length (chosen q) ≤ length out
   group-fits = omega (arith, s .room, ends-later, length-map (chosen q) (λ (k : ℕ). getD (q .recording) (base + k) 0))
 
-  pub cutting-next : (out′ : List ℕ) (to′ : ℕ) → Piece out to (loadsAt end to these) out′ to′
+  pub cutting-next : (out′ : List ℕ) (to′ : ℕ) → Piece out to (loadRecords end to these) out′ to′
       → Cutting q end out₀ to₀ out′ to′ (base + q .channels)
   cutting-next out′ to′ p =
       let e : to′ ≡ to + 8 * length these = p .place ∙ ap (λ (x : ℕ). to + x) (loads-long end to these) in
@@ -130,6 +130,6 @@ module _ {q : Cut} {n place : ℕ} (g : GoodCut q n place) {end : ℕ} {out₀ :
         room = omega (arith, s .room, piece-length p);
         whole = λ o k r.
             s .whole o k
-            (renamed (loads-append end to these others ∙ ap (loadsAt end to) both)
-            (then p (renamed (ap (λ (x : ℕ). loadsAt end x others) e) r)));
+            (renamed (loads-append end to these others ∙ ap (loadRecords end to) both)
+            (then p (renamed (ap (λ (x : ℕ). loadRecords end x others) e) r)));
       }

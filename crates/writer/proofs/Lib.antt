@@ -7,6 +7,6 @@ pub mod Loops
 pub mod Refusing
 pub mod Orders
 pub mod Marks
-pub mod Loading
+pub mod Grouping
 pub mod Cutting
 pub mod Unique

@@ -10,39 +10,39 @@ use lib.ListN.{length}
 use Rattle.rules.specs.declared.Event.the-variants.{Write as write}
 use Rattle.files.specs.Bytes.{bytesOf, recordsOf}
 use Rattle.cuts.specs.Cut.{eofOnLast}
-use Rattle.writer.specs.Cutting.{loadAt, loadsAt}
+use Rattle.writer.specs.Cutting.{loadRecord, loadRecords}
 
-pub loads-long : (end at : ℕ) (vs : List ℕ) → length (loadsAt end at vs) ≡ 8 * length vs
-unfolding loadsAt
+pub loads-long : (end at : ℕ) (vs : List ℕ) → length (loadRecords end at vs) ≡ 8 * length vs
+unfolding loadRecords
 loads-long end at [] = refl
 loads-long end at (v ∷ vs) = omega (arith, loads-long end (at + 8) vs)
 
-pub loads-append : (end at : ℕ) (vs ws : List ℕ) → loadsAt end at vs ++ loadsAt end (at + 8 * length vs) ws ≡ loadsAt end at (vs ++ ws)
-unfolding loadsAt
-loads-append end at [] ws = let e : at + 8 * 0 ≡ at = omega arith in ap (λ (n : ℕ). loadsAt end n ws) e
+pub loads-append : (end at : ℕ) (vs ws : List ℕ) → loadRecords end at vs ++ loadRecords end (at + 8 * length vs) ws ≡ loadRecords end at (vs ++ ws)
+unfolding loadRecords
+loads-append end at [] ws = let e : at + 8 * 0 ≡ at = omega arith in ap (λ (n : ℕ). loadRecords end n ws) e
 loads-append end at (v ∷ vs) ws =
     let e : at + 8 * length (v ∷ vs) ≡ at + 8 + 8 * length vs = omega arith in
-    ap (λ (ls : List ℕ). loadAt end at v ++ ls)
-    (ap (λ (n : ℕ). loadsAt end (at + 8) vs ++ loadsAt end n ws) e ∙ loads-append end (at + 8) vs ws)
+    ap (λ (ls : List ℕ). loadRecord end at v ++ ls)
+    (ap (λ (n : ℕ). loadRecords end (at + 8) vs ++ loadRecords end n ws) e ∙ loads-append end (at + 8) vs ws)
 
 -- none is left where the session ends
-pub loads-over : (end at : ℕ) (vs : List ℕ) → at + 8 * length vs ≡ end → end ≤ at → loadsAt end at vs ≡ []
-unfolding loadsAt
+pub loads-over : (end at : ℕ) (vs : List ℕ) → at + 8 * length vs ≡ end → end ≤ at → loadRecords end at vs ≡ []
+unfolding loadRecords
 loads-over end at [] e l = refl
 loads-over end at (v ∷ vs) e l = absurd (omega (arith, e))
 
 -- ---- The mark
 
 module _ (end at v : ℕ) where
-  pub last-load : at + 8 ≡ end → bytesOf (write 0x18 (v + 0x10000)) ≡ loadAt end at v
+  pub last-load : at + 8 ≡ end → bytesOf (write 0x18 (v + 0x10000)) ≡ loadRecord end at v
   last-load e = ap (λ (t : Bool). bytesOf (write 0x18 (cond t (v + 0x10000) v))) (sym (eq-eqb (at + 8) end e))
 
-  pub other-load : at + 8 ≢ end → bytesOf (write 0x18 v) ≡ loadAt end at v
+  pub other-load : at + 8 ≢ end → bytesOf (write 0x18 v) ≡ loadRecord end at v
   other-load d = ap (λ (t : Bool). bytesOf (write 0x18 (cond t (v + 0x10000) v))) (sym (ne-eqb (at + 8) end d))
 
 -- 02: "EOF on the very last and on no other"
-pub loads-marked : (end at : ℕ) (vs : List ℕ) → at + 8 * length vs ≡ end → loadsAt end at vs ≡ recordsOf (map (write 0x18) (eofOnLast vs))
-unfolding loadsAt recordsOf eofOnLast
+pub loads-marked : (end at : ℕ) (vs : List ℕ) → at + 8 * length vs ≡ end → loadRecords end at vs ≡ recordsOf (map (write 0x18) (eofOnLast vs))
+unfolding loadRecords recordsOf eofOnLast
 loads-marked end at [] e = refl
 loads-marked end at (v ∷ []) e = ap (λ (ls : List ℕ). ls ++ []) (sym (last-load end at v (omega (arith, e))))
 loads-marked end at (v ∷ w ∷ vs) e =

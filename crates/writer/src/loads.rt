@@ -9,7 +9,7 @@ ghost use Rattle.laws.specs.Moved.{Among};
 ghost use Rattle.files.specs.Bytes.{bytesOf, fileOf};
 ghost use Rattle.files.specs.Pieces.{Piece};
 ghost use Rattle.cuts.specs.Cut.{events, cutRefusal};
-ghost use Rattle.writer.specs.Cutting.{groupAt, loadAt, loadsAt};
+ghost use Rattle.writer.specs.Cutting.{groupAt, loadRecord, loadRecords};
 ghost use Rattle.writer.specs.Promises.{cutOf};
 use crate::order::values_of;
 use crate::pieces::put_one;
@@ -18,7 +18,7 @@ use crate::records::put_write;
 // The load of a value. 02: "EOF on the very last and on no other": the one whose record ends where the session does.
 fn put_load(value: u16, end: usize, out: &mut [u8], at: usize) -> usize
     requires { ⌜ at + 8 ≤ length (now out) ⌝ }
-    ensures { λ r. ⌜ Piece (now (out .entry)) at (loadAt end at value) (now (out .exit)) r ⌝ }
+    ensures { λ r. ⌜ Piece (now (out .entry)) at (loadRecord end at value) (now (out .exit)) r ⌝ }
 {
     if at + 8 == end {
         return put_write(out, at, 0x18, value as u32 + 0x10000);
@@ -38,7 +38,7 @@ fn put_group(
 ) -> usize
     requires inside { ⌜ ((k : ℕ) → Among k (activeFrom 0 mask) → base + k < length (now recording)) ⌝ }
     requires room { ⌜ to + 8 * length (activeFrom 0 mask) ≤ length (now out) ⌝ }
-    ensures { λ r. ⌜ Piece (now (out .entry)) to (loadsAt end to (groupAt (now (recording .entry)) base (activeFrom 0 mask))) (now (out .exit)) r ⌝ }
+    ensures { λ r. ⌜ Piece (now (out .entry)) to (loadRecords end to (groupAt (now (recording .entry)) base (activeFrom 0 mask))) (now (out .exit)) r ⌝ }
 {
     let mut at = to;
     let mut waiting = mask;

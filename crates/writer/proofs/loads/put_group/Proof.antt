@@ -5,12 +5,12 @@ use lib.ListN.{length}
 use denote.Ref.{now}
 use Rattle.laws.proofs.Search.{without-less}
 use Rattle.files.proofs.Joined.{piece-length}
-use Rattle.writer.proofs.Loading.{Loading, loading-start, some-wait, load-inside, load-fits, loading-next, loading-over}
+use Rattle.writer.proofs.Grouping.{Grouping, grouping-start, some-wait, load-inside, load-fits, grouping-next, grouping-over}
 use Rattle.writer.proofs.loads.put_group.Statement.{statement}
 use Rattle.writer.proofs.loads.put_group.Tie as tie
 
 abbrev Inv-loop : tie.InvT-loop
-Inv-loop recording base mask end out₀ to at₀ waiting₀ k₀ out at waiting k = Loading recording base mask end out₀ to out at waiting k
+Inv-loop recording base mask end out₀ to at₀ waiting₀ k₀ out at waiting k = Grouping recording base mask end out₀ to out at waiting k
 
 abbrev μ-loop : tie.MeasureT-loop
 μ-loop recording base mask end out₀ to at₀ waiting₀ k₀ out at waiting k = waiting
@@ -21,7 +21,7 @@ there : (c : tie.In-loop Inv-loop μ-loop)
 there c = load-inside (c .before .loop .inv) (c .loop-test .taken)
 
 loop-holds : tie.Need-loop-holds Inv-loop μ-loop
-loop-holds c = let start = c .before .before in loading-start (start .pre .0) (start .pre .1)
+loop-holds c = let start = c .before .before in grouping-start (start .pre .0) (start .pre .1)
 
 cast-put-load : tie.Need-cast-put-load Inv-loop μ-loop
 cast-put-load c = omega (arith, there c)
@@ -50,10 +50,10 @@ loop-again : tie.Need-loop-again Inv-loop μ-loop
 loop-again c =
     let put = c .before .before in
     let turn = put .before .before .before in
-    loading-next (turn .before .loop .inv) (turn .loop-test .taken) _ _ (put .put-load .ensures)
+    grouping-next (turn .before .loop .inv) (turn .loop-test .taken) _ _ (put .put-load .ensures)
 
 returns : tie.Need-returns Inv-loop μ-loop
-returns c = loading-over (c .before .loop .inv) (c .loop-test .left)
+returns c = grouping-over (c .before .loop .inv) (c .loop-test .left)
 
 same-length : tie.Need-same-length Inv-loop μ-loop
 same-length c = piece-length (returns c)

@@ -12,33 +12,33 @@ use Rattle.laws.proofs.Among.{among-head, among-tail}
 use Rattle.laws.proofs.Search.{group-zeros, some-mask}
 use Rattle.files.specs.Pieces.{Piece}
 use Rattle.files.proofs.Joined.{then, renamed, piece-length}
-use Rattle.writer.specs.Cutting.{groupAt, loadAt, loadsAt}
+use Rattle.writer.specs.Cutting.{groupAt, loadRecord, loadRecords}
 use Rattle.writer.proofs.Ends.{none-left}
 
 -- The channels that wait are those of `waiting`, and k is the lowest. With their loads, those of all are written from to₀ on.
-pub record Loading (xs : List ℕ) (base mask end : ℕ) (out₀ : List ℕ) (to₀ : ℕ) (out : List ℕ) (at waiting k : ℕ) : Type 0 where
+pub record Grouping (xs : List ℕ) (base mask end : ℕ) (out₀ : List ℕ) (to₀ : ℕ) (out : List ℕ) (at waiting k : ℕ) : Type 0 where
   pub lowest : k ≡ trailingZeros wordBits waiting
   pub inside : (j : ℕ) → Among j (activeFrom 0 waiting) → base + j < length xs
   pub room : at + 8 * length (activeFrom 0 waiting) ≤ length out
   pub whole : (o : List ℕ) (p : ℕ)
-      → Piece out at (loadsAt end at (groupAt xs base (activeFrom 0 waiting))) o p
-      → Piece out₀ to₀ (loadsAt end to₀ (groupAt xs base (activeFrom 0 mask))) o p
+      → Piece out at (loadRecords end at (groupAt xs base (activeFrom 0 waiting))) o p
+      → Piece out₀ to₀ (loadRecords end to₀ (groupAt xs base (activeFrom 0 mask))) o p
 
-pub loading-start : {xs : List ℕ} {base mask end : ℕ} {out : List ℕ} {to : ℕ}
+pub grouping-start : {xs : List ℕ} {base mask end : ℕ} {out : List ℕ} {to : ℕ}
     → ((j : ℕ) → Among j (activeFrom 0 mask) → base + j < length xs)
     → to + 8 * length (activeFrom 0 mask) ≤ length out
-    → Loading xs base mask end out to out to mask (trailingZeros wordBits mask)
-loading-start h l = record { lowest = refl; inside = h; room = l; whole = λ o p r. r }
+    → Grouping xs base mask end out to out to mask (trailingZeros wordBits mask)
+grouping-start h l = record { lowest = refl; inside = h; room = l; whole = λ o p r. r }
 
 module _ {xs : List ℕ} {base mask end : ℕ} {out₀ : List ℕ} {to₀ : ℕ} {out : List ℕ} {at waiting k : ℕ}
-    (s : Loading xs base mask end out₀ to₀ out at waiting k) where
+    (s : Grouping xs base mask end out₀ to₀ out at waiting k) where
   zeros : ByZeros 20 0 waiting (without waiting) k
   zeros = rw (← s .lowest) at (group-zeros waiting)
 
   -- the loads that are left, by the channels that wait
   left : {ks : List ℕ} → activeFrom 0 waiting ≡ ks
-      → loadsAt end at (groupAt xs base (activeFrom 0 waiting)) ≡ loadsAt end at (groupAt xs base ks)
-  left e = ap (λ (ks : List ℕ). loadsAt end at (groupAt xs base ks)) e
+      → loadRecords end at (groupAt xs base (activeFrom 0 waiting)) ≡ loadRecords end at (groupAt xs base ks)
+  left e = ap (λ (ks : List ℕ). loadRecords end at (groupAt xs base ks)) e
 
   -- one waits
   module _ (l : k < 20) where
@@ -54,11 +54,11 @@ module _ {xs : List ℕ} {base mask end : ℕ} {out₀ : List ℕ} {to₀ : ℕ}
     pub load-fits : at + 8 ≤ length out
     load-fits = omega (arith, s .room, ap length waits)
 
-    pub loading-next : (out′ : List ℕ) (at′ : ℕ) → Piece out at (loadAt end at (getD xs (base + k) 0)) out′ at′
-        → Loading xs base mask end out₀ to₀ out′ at′ (without waiting) (trailingZeros wordBits (without waiting))
-    unfolding loadsAt
-    loading-next out′ at′ p =
-        let later = ap (λ (n : ℕ). loadsAt end n (groupAt xs base (activeFrom 0 (without waiting)))) (p .place) in
+    pub grouping-next : (out′ : List ℕ) (at′ : ℕ) → Piece out at (loadRecord end at (getD xs (base + k) 0)) out′ at′
+        → Grouping xs base mask end out₀ to₀ out′ at′ (without waiting) (trailingZeros wordBits (without waiting))
+    unfolding loadRecords
+    grouping-next out′ at′ p =
+        let later = ap (λ (n : ℕ). loadRecords end n (groupAt xs base (activeFrom 0 (without waiting)))) (p .place) in
         record {
           lowest = refl;
           inside = λ j h. s .inside j (rw waits (among-tail j k _ h));
@@ -67,6 +67,6 @@ module _ {xs : List ℕ} {base mask end : ℕ} {out₀ : List ℕ} {to₀ : ℕ}
         }
 
   -- none waits
-  pub loading-over : 20 ≤ k → Piece out₀ to₀ (loadsAt end to₀ (groupAt xs base (activeFrom 0 mask))) out at
-  unfolding loadsAt
-  loading-over l = s .whole out at (none-left (left (zeros .none l)))
+  pub grouping-over : 20 ≤ k → Piece out₀ to₀ (loadRecords end to₀ (groupAt xs base (activeFrom 0 mask))) out at
+  unfolding loadRecords
+  grouping-over l = s .whole out at (none-left (left (zeros .none l)))

@@ -1,10 +1,10 @@
 -- The two writes after the cut: the board is ready to play, whichever comes first.
---   Ready mask v n c       of a core: its mask and mode, its clock, its cursor n
---   Playing mask v vs n s  of a board: that, and the values vs are stored
+--   ReadyToPlay mask v n c   of a core: its mask and mode, its clock, its cursor n
+--   Playing mask v vs n s    of a board: that, and the values vs are stored
 use Prim.Native.Nat.{ℕ}
 use mathlib.Core.Path.{_≡_, refl, sym, ap, subst, _∙_}
 use mathlib.Core.Bool.{Bool, true, false, not, _&&_, cond, and-false}
-use mathlib.Core.List.{List}
+use mathlib.Core.List.{List, [], _∷_}
 use native.Mathlib.Omega.{arith}
 use lib.ListN.{length}
 use Rattle.rules.specs.declared.Settings.{Settings}
@@ -16,7 +16,7 @@ use Rattle.rules.specs.Record.{State, stored}
 use Rattle.rules.specs.Clocks.{Play, only, clockReady, clockAccepted, onOutside}
 use Rattle.rules.specs.Writes.{initial, cursorOf, calibrationOf, writeControl, bufferOf, tried, writeBuffer, onWrite}
 use Rattle.rules.specs.Play.{play}
-use Rattle.rules.specs.Step.{played}
+use Rattle.rules.specs.Step.{played, step}
 use Rattle.rules.specs.Session.{outcomes, after}
 use Rattle.rules.specs.Laws.Soundness.{Stands}
 use Rattle.rules.specs.Laws.Refusals.{Offset}
@@ -28,7 +28,7 @@ use Rattle.cuts.proofs.Loading.{masked, Loading}
 
 -- ---- What a tick looks at
 
-pub record Ready (mask v cursor : ℕ) (c : Core) : Type 0 where
+pub record ReadyToPlay (mask v cursor : ℕ) (c : Core) : Type 0 where
   pub bursts : c .control .bursts ≡ false
   pub binary : c .control .binary ≡ bit 4 v
   pub simultaneous : c .control .simultaneous ≡ bit 7 v
@@ -76,7 +76,7 @@ buffer-played s w g z =
 -- the board with the values vs, as the ticks find it
 pub record Playing (mask v : ℕ) (vs : List ℕ) (cursor : ℕ) (s : State) : Type 0 where
   pub stands : Stands s
-  pub ready : Ready mask v cursor (s .board .core)
+  pub ready : ReadyToPlay mask v cursor (s .board .core)
   pub values : stored s ≡ vs
 
 -- two writes on the board s: they are accepted, and leave such a board
@@ -94,7 +94,7 @@ module _ (x : Settings) (mask v w : ℕ) (p : Playable v w) where
   unfolding calibrationOf initial
   still = rw (p .noCalibration) refl
 
-  control-then-buffer : Ready mask v 0 (bufferOf w (controlled v (masked x mask)))
+  control-then-buffer : ReadyToPlay mask v 0 (bufferOf w (controlled v (masked x mask)))
   unfolding bufferOf writeControl initial
   control-then-buffer =
       record {
@@ -110,7 +110,7 @@ module _ (x : Settings) (mask v w : ℕ) (p : Playable v w) where
         twenty = refl;
       }
 
-  buffer-then-control : Ready mask v 0 (controlled v (bufferOf w (masked x mask)))
+  buffer-then-control : ReadyToPlay mask v 0 (controlled v (bufferOf w (masked x mask)))
   unfolding bufferOf writeControl initial
   buffer-then-control =
       record {
@@ -141,29 +141,28 @@ module _ (x : Settings) (mask v w : ℕ) (p : Playable v w) where
         event-done s (write 0x0C w) _ st tt (write-open s 0x0C w st offset-0C (λ e. omega (arith, e)) (λ e. omega (arith, e)) unhindered)
         (buffer-played s w (p .generator) (p .unemptied) ∙ ap (λ (y : Core). only (bufferOf w y)) e)
 
+  -- two events that change the core alone
+  both-done : {vs : List ℕ} {s : State} {e f : Event} {c d : Core} → stored s ≡ vs
+      → Done s e (only c) → Done ((step s e) .state) f (only d) → ReadyToPlay mask v 0 d
+      → BothDone mask v vs s (e ∷ f ∷ [])
+  unfolding after outcomes onList
+  both-done h a b r =
+      record {
+        fine = next (a .refusal) (no-loss (a .fate)) (next (b .refusal) (no-loss (b .fate)) none);
+        playing = record {
+          stands = b .stands;
+          ready = subst (ReadyToPlay mask v 0) (sym (b .core)) r;
+          values = b .values ∙ a .values ∙ h;
+        };
+      }
+
   -- in either order
   module _ (vs : List ℕ) (s : State) (l : Loading x mask vs s) where
     pub two-done : (two : List Event) → EitherOrder v w two → BothDone mask v vs s two
-    unfolding after outcomes onList initial bufferOf writeControl
+    unfolding initial bufferOf writeControl
     two-done _ controlFirst =
         let a = control-done s (l .stands) _ (l .core) refl in
-        let b = buffer-done _ (a .stands) _ (a .core) still in
-        record {
-          playing = record {
-            stands = b .stands;
-            ready = subst (Ready mask v 0) (sym (b .core)) control-then-buffer;
-            values = b .values ∙ a .values ∙ l .values;
-          };
-          fine = next (a .refusal) (no-loss (a .fate)) (next (b .refusal) (no-loss (b .fate)) none);
-        }
+        both-done (l .values) a (buffer-done _ (a .stands) _ (a .core) still) control-then-buffer
     two-done _ bufferFirst =
         let a = buffer-done s (l .stands) _ (l .core) refl in
-        let b = control-done _ (a .stands) _ (a .core) refl in
-        record {
-          playing = record {
-            stands = b .stands;
-            ready = subst (Ready mask v 0) (sym (b .core)) buffer-then-control;
-            values = b .values ∙ a .values ∙ l .values;
-          };
-          fine = next (a .refusal) (no-loss (a .fate)) (next (b .refusal) (no-loss (b .fate)) none);
-        }
+        both-done (l .values) a (control-done _ (a .stands) _ (a .core) refl) buffer-then-control
