@@ -1,8 +1,9 @@
-//! What the six programs share: their words, records, events and answers as
+//! What the seven programs share: their words, records, events and answers as
 //! numbers, the second model behind them, random sessions, session files, and
 //! the way through these. Nothing here needs the archives.
 
 pub mod bits;
+pub mod calls;
 pub mod counts;
 pub mod crc;
 pub mod damage;
@@ -21,6 +22,8 @@ pub mod power_ups;
 pub mod process;
 pub mod question;
 pub mod rng;
+pub mod room;
 pub mod shorten;
 pub mod trials;
 pub mod words;
+pub mod written;

@@ -1,8 +1,9 @@
 //! One call of the writer: the rows, how long the output is, and the place.
 
-use super::{room, rows};
+use super::rows;
 use compare::panics::caught;
 use compare::rng::Rng;
+use compare::room;
 
 #[derive(Clone)]
 pub struct Call {
@@ -23,7 +24,7 @@ impl Call {
     pub fn new(seed: u64, index: u64) -> Call {
         let mut rng = Rng::new(seed ^ WRITING, index);
         let rows = rows::choose(&mut rng);
-        let (room, place) = room::choose(room::session(&rows), &mut rng);
+        let (room, place) = room::choose(rows::session(&rows), &mut rng);
         Call {
             rows,
             room,

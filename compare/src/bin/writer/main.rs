@@ -5,17 +5,14 @@ mod call;
 mod faults;
 mod lent;
 mod print;
-mod room;
 mod rows;
 mod shorten;
 mod tally;
 mod trial;
 
-use call::Call;
-use compare::options::{self, Options};
-use compare::panics;
-use compare::process::{self, End, Progress};
-use lent::Found;
+use compare::calls::{self, Trial as _};
+use compare::options::Options;
+use compare::process::Progress;
 use tally::Tally;
 use trial::{Part, Trial, PARTS};
 
@@ -40,42 +37,21 @@ The first few calls that differ are shortened and printed. The last line is
 Exit status: 0 nothing differs, 1 something does, 2 wrong usage.
 ";
 
-/// The other side has this long for one call, in seconds.
-const CALL_SECONDS: u32 = 20;
-/// So many differences are printed.
-const PRINTED: u64 = 3;
-/// And so many events, or lines of a file, of each.
-const LINES: usize = 40;
-/// Runs that shortening may take, when each needs a child process, and when each
-/// of these waits for its time limit.
-const TRIES: u32 = 4_000;
-const CHILD_TRIES: u32 = 400;
-const WAITING_TRIES: u32 = 20;
-
 fn main() {
-    let options = options::given("compare/writer", HELP, ("--calls", 100_000), |_| false);
-    panics::quiet();
-    process::watched(
-        |progress| run(&options, progress),
-        |progress, signal| died(&options, progress, signal),
-    );
+    calls::program::<Trial>("compare/writer", HELP, run);
 }
 
 /// The whole comparison. Answers the exit status.
 fn run(options: &Options, progress: &Progress) -> i32 {
-    println!("seed {}", options.seed);
     let mut tally = options.coverage.then(Tally::default);
-    let (mut total, mut differ) = (0, 0);
     let (mut read, mut refused, mut again) = (0, 0, 0);
-    for index in options.indices() {
-        progress.set(0, index);
-        process::time_limit(CALL_SECONDS);
-        let mut same = true;
+    let counted = calls::each(options, progress, |index| {
+        let mut differs = None;
         for part in PARTS {
             progress.set(1, part as u64);
-            let trial = Trial::new(options.seed, index, part);
+            let trial = Trial::of(options.seed, index, part);
             if options.only.is_some() {
-                println!("call {index}: {}", trial.name);
+                println!("call {index}: {}", trial.name());
                 trial.print(usize::MAX);
             }
             let Some(call) = &trial.call else {
@@ -88,93 +64,15 @@ fn run(options: &Options, progress: &Progress) -> i32 {
             if let (Some(tally), Part::Rows) = (&mut tally, part) {
                 tally.note(call, &found);
             }
-            if !found.wrongs.is_empty() && same {
-                same = false;
-                if differ < PRINTED {
-                    process::time_limit(20 * CALL_SECONDS);
-                    report(options, index, &trial, &found);
-                }
+            if !found.wrongs.is_empty() && differs.is_none() {
+                differs = Some((trial, found.wrongs));
             }
         }
-        total += 1;
-        progress.set(2, total);
-        differ += !same as u64;
-        progress.set(3, differ);
-    }
+        differs
+    });
     if let Some(tally) = &tally {
         tally.print();
     }
     println!("{read} sessions read back; {again} files written again, {refused} refused when read");
-    println!("{total} calls, {differ} differ");
-    (differ > 0) as i32
-}
-
-/// Prints a trial that differs, as short as can be.
-fn report(options: &Options, index: u64, trial: &Trial, found: &Found) {
-    println!();
-    println!(
-        "DIFFERENCE in call {index} of seed {} ({}): {} (model/ours)",
-        options.seed,
-        trial.name,
-        found.wrongs.join(", ")
-    );
-    let differs = |call: &Call| !lent::compare(call).wrongs.is_empty();
-    let short = trial.shortened(TRIES, differs);
-    match short.and_then(|short| Some((lent::compare(short.call.as_ref()?), short))) {
-        None => {
-            println!("It does not differ by itself: the other side seems to remember something.");
-            trial.print(LINES);
-            print!("{}", print::found(found));
-        }
-        Some((found, short)) => {
-            println!(
-                "shortened to {}: {} (model/ours)",
-                short.name,
-                found.wrongs.join(", ")
-            );
-            short.print(LINES);
-            print!("{}", print::found(&found));
-        }
-    }
-    println!();
-}
-
-/// The child died: tells in which call, shortened in children of its own.
-/// Answers the exit status.
-fn died(options: &Options, progress: &Progress, signal: i32) -> i32 {
-    let index = progress.get(0);
-    let part = progress.get(1) as usize;
-    let trial = Trial::new(options.seed, index, PARTS[part]);
-    let waits = signal == 14;
-    println!();
-    println!(
-        "DIFFERENCE in call {index} of seed {} ({}): ours died of signal {signal}{}",
-        options.seed,
-        trial.name,
-        if waits { ", the time limit" } else { "" }
-    );
-    let limit = if waits { 1 } else { CALL_SECONDS };
-    let tries = if waits { WAITING_TRIES } else { CHILD_TRIES };
-    let dies = |call: &Call| {
-        let end = process::in_child(|| {
-            process::time_limit(limit);
-            lent::compare(call);
-            0
-        });
-        matches!(end, End::Signal(_))
-    };
-    match trial.shortened(tries, dies) {
-        None => {
-            println!("It does not die of it alone: the other side seems to remember something.");
-            trial.print(LINES);
-        }
-        Some(short) => {
-            println!("shortened to {}", short.name);
-            short.print(LINES);
-        }
-    }
-    println!();
-    let (total, differ) = (progress.get(2) + 1, progress.get(3) + 1);
-    println!("{total} calls, {differ} differ");
-    1
+    calls::end(counted)
 }

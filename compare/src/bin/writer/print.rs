@@ -1,12 +1,8 @@
-//! A call in words, and what the two sides said to it.
+//! A call in words.
 
 use super::call::Call;
-use super::lent::{end, number, Found};
 use super::rows::{events, ROW};
 use compare::words::words;
-
-/// The most bytes that are printed of an output.
-const BYTES: usize = 12;
 
 /// So many events at most.
 pub fn call(call: &Call, most: usize) -> String {
@@ -32,30 +28,4 @@ pub fn call(call: &Call, most: usize) -> String {
 
 pub fn output(call: &Call) -> String {
     format!("output: {} bytes, place {}\n", call.room, call.place)
-}
-
-/// What each side said, and the bytes that differ.
-pub fn found(found: &Found) -> String {
-    let mut text = format!("      {:<16} {:<12} ours\n", "", "model");
-    let mut line = |what: &str, model: String, ours: String| {
-        let mark = if model == ours { "" } else { "  <-- differ" };
-        let both = format!("      {what:<16} {model:<12} {ours:<12}{mark}");
-        text += both.trim_end();
-        text += "\n";
-    };
-    let (model, ours) = (&found.model, &found.ours);
-    line("refusal", number(model.refusal), number(ours.refusal));
-    line("end", end(model.end), end(ours.end));
-    let bytes = found.bytes();
-    for (place, model, ours) in bytes.iter().take(BYTES) {
-        line(
-            &format!("output[{place}]"),
-            format!("{model:02X}h"),
-            format!("{ours:02X}h"),
-        );
-    }
-    if bytes.len() > BYTES {
-        text += &format!("      and {} more bytes differ\n", bytes.len() - BYTES);
-    }
-    text
 }

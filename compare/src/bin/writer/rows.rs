@@ -2,7 +2,7 @@
 //! them, and numbers that are no whole event.
 
 use compare::fields::*;
-use compare::file::widths;
+use compare::file::{record, widths};
 use compare::rng::Rng;
 
 /// "six numbers each (kind, then fields)"
@@ -50,6 +50,12 @@ const DAMAGE: [Damage; 4] = [
 pub fn events(rows: &[u32]) -> impl DoubleEndedIterator<Item = Event> + '_ {
     rows.chunks_exact(ROW)
         .map(|row| std::array::from_fn(|i| row[i]))
+}
+
+/// How long the session of these rows is; a bad event counts as its bytes would.
+pub fn session(rows: &[u32]) -> usize {
+    let records = events(rows).map(|event| record(&event).len());
+    1 + records.sum::<usize>()
 }
 
 /// The rows of a call: mostly good events.

@@ -2,8 +2,7 @@
 //! a time, while it still differs.
 
 use super::call::Call;
-use super::room;
-use super::rows::ROW;
+use super::rows::{session, ROW};
 
 pub fn shorten(call: &Call, mut tries: u32, mut differs: impl FnMut(&Call) -> bool) -> Call {
     let mut best = call.clone();
@@ -36,7 +35,7 @@ fn drop_chunks(
         let mut fewer = best.clone();
         let dropped: Vec<u32> = fewer.rows.drain(at * ROW..(at + chunk) * ROW).collect();
         let mut as_tight = fewer.clone();
-        as_tight.room = fewer.room.saturating_sub(room::session(&dropped) - 1);
+        as_tight.room = fewer.room.saturating_sub(session(&dropped) - 1);
         if differs(&as_tight) {
             *best = as_tight;
         } else if differs(&fewer) {

@@ -1,13 +1,12 @@
 //! `--coverage`: how often each refusal happened, and each meeting of them.
 
 use super::call::Call;
+use super::faults::{self, Fault};
 use super::lent::Found;
-use super::rows::{events, most, ROW, UNKNOWN};
-use super::{faults, room};
+use super::rows::{events, most, session, ROW, UNKNOWN};
 use compare::counts::Counts;
 use compare::fields::*;
 use compare::file::{widths, LONGEST};
-use faults::Fault;
 
 #[derive(Default)]
 pub struct Tally {
@@ -60,11 +59,11 @@ impl Tally {
         let events: Vec<Event> = events(&call.rows).collect();
         let bad = |(at, event)| Some((at, faults::first(event)?));
         let seen = Seen {
-            refusal: found.model.refusal,
+            refusal: found.sides.model.refusal,
             rows: call.rows.len(),
             faults: events.iter().enumerate().filter_map(bad).collect(),
             events,
-            length: room::session(&call.rows),
+            length: session(&call.rows),
             room: call.room,
             place: call.place,
             left: call.room.saturating_sub(call.place),

@@ -2,8 +2,10 @@
 //! session file, read and written again. And a trial that differs, shortened.
 
 use super::call::Call;
-use super::{print, shorten};
+use super::{lent, print, shorten};
+use compare::calls;
 use compare::files::File;
+use compare::guarded::Wrongs;
 use compare::hex;
 
 #[derive(Clone, Copy, PartialEq)]
@@ -14,15 +16,16 @@ pub enum Part {
 
 pub const PARTS: [Part; 2] = [Part::Rows, Part::File];
 
+#[derive(Clone)]
 pub struct Trial {
-    pub name: String,
-    pub file: Option<Vec<u8>>,
+    name: String,
+    file: Option<Vec<u8>>,
     /// None of a file that is refused: there is nothing to write.
     pub call: Option<Call>,
 }
 
 impl Trial {
-    pub fn new(seed: u64, index: u64, part: Part) -> Trial {
+    pub fn of(seed: u64, index: u64, part: Part) -> Trial {
         match part {
             Part::Rows => Trial::of_call(Call::new(seed, index)),
             Part::File => {
@@ -43,28 +46,44 @@ impl Trial {
             call: Some(call),
         }
     }
+}
 
-    /// The shortest that still differs: with fewer events, or a file of fewer
-    /// records. None if it does not differ by itself.
-    pub fn shortened(&self, tries: u32, mut differs: impl FnMut(&Call) -> bool) -> Option<Trial> {
-        let call = self.call.as_ref().filter(|call| differs(call))?;
-        let short = match &self.file {
-            None => shorten::shorten(call, tries, differs),
+impl calls::Trial for Trial {
+    fn new(seed: u64, index: u64, part: u64) -> Trial {
+        Trial::of(seed, index, PARTS[part as usize])
+    }
+
+    fn name(&self) -> String {
+        self.name.clone()
+    }
+
+    fn alone(&self) -> Wrongs {
+        let call = self.call.as_ref();
+        call.map_or(Vec::new(), |call| lent::compare(call).wrongs)
+    }
+
+    /// With fewer events, or a file of fewer records.
+    fn shortened(&self, mut tries: u32, mut differs: impl FnMut(&Trial) -> bool) -> Trial {
+        let Some(call) = &self.call else {
+            return self.clone();
+        };
+        let mut differs = |call: &Call| differs(&Trial::of_call(call.clone()));
+        let fewer = match &self.file {
+            None => Some(shorten::shorten(call, tries, differs)),
             Some(file) => {
-                let mut tries = tries;
                 let bytes = compare::shorten::shorten(file, |bytes| {
                     let fewer = (tries > 0).then(|| call.with_file(bytes)).flatten();
                     tries = tries.saturating_sub(1);
                     fewer.is_some_and(|fewer| differs(&fewer))
                 });
-                call.with_file(&bytes)?
+                call.with_file(&bytes)
             }
         };
-        Some(Trial::of_call(short))
+        fewer.map_or(self.clone(), Trial::of_call)
     }
 
-    /// In words: so many events, or lines of the file.
-    pub fn print(&self, most: usize) {
+    /// So many events, or lines of the file.
+    fn print(&self, most: usize) {
         if let Some(file) = &self.file {
             hex::print(file, most);
         }
@@ -72,6 +91,12 @@ impl Trial {
             None => println!("refused when read: nothing to write"),
             Some(call) if self.file.is_none() => print!("{}", print::call(call, most)),
             Some(call) => print!("{}", print::output(call)),
+        }
+    }
+
+    fn print_sides(&self) {
+        if let Some(call) = &self.call {
+            print!("{}", lent::compare(call).sides.text());
         }
     }
 }

@@ -1,15 +1,7 @@
-//! The output of a call, how long it is, and the place: such that a session
-//! fits, just fits, or misses by one byte or by far.
+//! The output of a call that writes a session, how long it is, and the place:
+//! such that the session fits, just fits, or misses by one byte or by far.
 
-use super::rows;
-use compare::file;
-use compare::rng::Rng;
-
-/// How long the session of these rows is; a bad event counts as its bytes would.
-pub fn session(rows: &[u32]) -> usize {
-    let records = rows::events(rows).map(|event| file::record(&event).len());
-    1 + records.sum::<usize>()
-}
+use crate::rng::Rng;
 
 /// The output's length and the place, for a session of so many bytes.
 pub fn choose(length: usize, rng: &mut Rng) -> (usize, usize) {
