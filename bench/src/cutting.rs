@@ -15,22 +15,22 @@ struct Choice {
 
 const CHOICES: [Choice; 4] = [
     Choice {
-        name: "all of 20",
+        name: "all",
         channels: 20,
         mask: 0xF_FFFF,
     },
     Choice {
-        name: "every second",
+        name: "alternate",
         channels: 20,
         mask: 0x5_5555,
     },
     Choice {
-        name: "last of 20",
+        name: "last",
         channels: 20,
         mask: 0x8_0000,
     },
     Choice {
-        name: "one channel",
+        name: "single",
         channels: 1,
         mask: 1,
     },
@@ -102,7 +102,7 @@ pub fn measure(only: Option<&str>, rounds: u64) {
 
 fn chosen(only: Option<&str>) -> impl Iterator<Item = &'static Choice> + '_ {
     if let Some(name) = only.filter(|name| CHOICES.iter().all(|choice| choice.name != *name)) {
-        wrong(&format!("--only: there is no cut `{name}`"));
+        wrong(&format!("--cut: there is no cut `{name}`"));
     }
     CHOICES
         .iter()

@@ -16,24 +16,26 @@ const HELP: &str = "\
 bench/run - the proved listing, writing, volts or sizes of whole sessions, or the proved
 cutting of recordings, against the same in Rust
 
-usage: bench/run [--rounds N] [--only NAME] [--writing | --cutting | --volts | --sizes]
-                 [--ours] [--help]
+usage: bench/run [--rounds N] [--only NAME] [--writing | --volts | --sizes] [--ours]
+       bench/run [--rounds N] --cutting | --cut NAME [--ours]
+       bench/run --help
 
   --rounds N     how often each session is replayed on each side, a number from 1
                  (default 2000); in turns, and the best is taken
-  --only NAME    only this session: streaming, sparse, circular, simultaneous or random;
-                 of --cutting only this cut, by its name in the table
+  --only NAME    only this session: streaming, sparse, circular, simultaneous or random
   --writing      the sessions are written from their events, and not listed
   --cutting      sessions of 8,000 values are cut out of recordings, beside a plain loop
-                 in Rust that writes the same bytes; an event is a value
+                 in Rust that writes the same bytes; an event is a value. The groups
+                 have 20 channels, but for the last cut, whose groups have one
+  --cut NAME     the same, and only this cut: all, alternate, last or single
   --volts        the table of lowest, highest and last volts is made of them, and not a
                  listing; below each row stands its time over that of the listing
   --sizes        the smallest size that plays each of them is found: it is replayed with
                  code 0, 1 and so on up to the one named, with all sixteen where none plays
                  (refusal 19). An event counts once, however many replays there are; below
                  each row stand the code, the replays, the proved side's time an event, and
-                 its time over that of one listing. Of --writing, --cutting, --volts and
-                 --sizes the last counts
+                 its time over that of one listing. Of --writing, --cutting, --cut,
+                 --volts and --sizes the last counts
   --ours         only the proved side and no table, for a profiler
   --help         this text
 
@@ -48,6 +50,7 @@ const MEMORY: usize = 16_384;
 struct Options {
     rounds: u64,
     only: Option<String>,
+    cut: Option<String>,
     what: What,
     ours: bool,
 }
@@ -75,10 +78,10 @@ fn main() {
         Ok(options) => options,
         Err(text) => wrong(&text),
     };
-    let only = options.only.as_deref();
+    let (only, cut) = (options.only.as_deref(), options.cut.as_deref());
     match (options.what, options.ours) {
-        (What::Cutting, true) => cutting::ours(only, options.rounds),
-        (What::Cutting, false) => cutting::measure(only, options.rounds),
+        (What::Cutting, true) => cutting::ours(cut, options.rounds),
+        (What::Cutting, false) => cutting::measure(cut, options.rounds),
         (What::Sessions(made), true) => ours(made, only, options.rounds),
         (What::Sessions(made), false) => both(made, only, options.rounds),
     }
@@ -131,6 +134,7 @@ fn options() -> Result<Options, String> {
     let mut options = Options {
         rounds: 2_000,
         only: None,
+        cut: None,
         what: What::Sessions(Made::Listing),
         ours: false,
     };
@@ -148,6 +152,10 @@ fn options() -> Result<Options, String> {
             "--only" => options.only = Some(word()?),
             "--writing" => options.what = What::Sessions(Made::File),
             "--cutting" => options.what = What::Cutting,
+            "--cut" => {
+                options.what = What::Cutting;
+                options.cut = Some(word()?);
+            }
             "--volts" => options.what = What::Sessions(Made::Volts),
             "--sizes" => options.what = What::Sessions(Made::Size),
             "--ours" => options.ours = true,

@@ -1,9 +1,9 @@
 -- Counting zeros is the search: by the lowest digit of a mask, of the mask without its lowest one, and of their halves.
-use Prim.Native.Nat.{ℕ, zero, suc, _+_, _-_, _*_, _/_, _%_, _^_, _<_, min}
+use Prim.Native.Nat.{ℕ, zero, suc, _+_, _-_, _*_, _/_, _%_, _^_, _≤_, _<_, min}
 use mathlib.Core.Path.{_≡_, refl, sym, ap, subst, _∙_}
 use mathlib.Core.Bool.{Bool, true, false, cond}
 use mathlib.Core.List.{_∷_}
-use native.Mathlib.Nat.{mod-lt, min-zero, zero-min, min-eq-left, min-eq-right, div-one, zero-add, mul-div-cancel}
+use native.Mathlib.Nat.{mod-lt, min-zero, zero-min, min-eq-left, min-eq-right, div-one, zero-add, mul-div-cancel, pow-suc}
 use native.Mathlib.Omega.{arith}
 use borrow.Author.Tests.{eq-eqb, ne-eqb, ltb-true, ltb-false}
 use lib.Arith.{digits-div, digits-mod}
@@ -117,6 +117,17 @@ group-zeros mask =
     let whole = div-one mask in
     subst (ByZeros 20 0 mask (without mask)) (zero-add _ ∙ ap (trailingZeros wordBits) whole)
     (zeros-tell 20 wordBits 0 mask (without mask) (omega arith) (div-one (without mask) ∙ ap without (sym whole)))
+
+-- the zeros of a number that is not 0 do not lead past its last bit
+pub zeros-below : (n w x : ℕ) → n ≤ w → 0 < x → x < 2 ^ n → trailingZeros w x < n
+unfolding trailingZeros
+zeros-below zero w x h p l = absurd (omega arith)
+zeros-below (suc n) zero x h p l = absurd (omega arith)
+zeros-below (suc n) (suc w) x h p l = go (x % 2) refl (λ e. zeros-below n w (x / 2) (omega arith) (omega (arith, e, p)) (omega (arith, l, pow-suc 2 n)))
+  where
+    go : (b : ℕ) → x % 2 ≡ b → (x % 2 ≡ 0 → trailingZeros w (x / 2) < n) → under b (trailingZeros w (x / 2)) < suc n
+    go zero e f = omega (arith, f e)
+    go (suc b) e f = omega arith
 
 -- a mask with a channel is not 0
 pub some-mask : (mask : ℕ) → trailingZeros wordBits mask < 20 → 0 < mask

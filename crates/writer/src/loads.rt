@@ -1,5 +1,5 @@
 // The session of a cut, written where there is room for it.
-ghost use Prim.Native.Nat.{ℕ, _+_, _*_, _≤_, _<_};
+ghost use Prim.Native.Nat.{ℕ, _+_, _*_, _^_, _≤_, _<_};
 ghost use mathlib.Core.Path.{_≡_};
 ghost use mathlib.Core.List.{_∷_};
 ghost use lib.ListN.{length};
@@ -36,17 +36,17 @@ fn put_group(
     out: &mut [u8],
     to: usize,
 ) -> usize
+    requires small { ⌜ mask < 2 ^ 20 ⌝ }
     requires inside { ⌜ ((k : ℕ) → Among k (activeFrom 0 mask) → base + k < length (now recording)) ⌝ }
     requires room { ⌜ to + 8 * length (activeFrom 0 mask) ≤ length (now out) ⌝ }
     ensures { λ r. ⌜ Piece (now (out .entry)) to (loadRecords end to (groupAt (now (recording .entry)) base (activeFrom 0 mask))) (now (out .exit)) r ⌝ }
 {
     let mut at = to;
     let mut waiting = mask;
-    let mut k = u32::trailing_zeros(waiting);
-    while k < 20 {
+    while waiting != 0 {
+        let k = u32::trailing_zeros(waiting);
         at = put_load(recording[base + k as usize], end, out, at);
         waiting = waiting & (waiting - 1);
-        k = u32::trailing_zeros(waiting);
     }
     at
 }

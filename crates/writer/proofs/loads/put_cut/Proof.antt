@@ -5,6 +5,7 @@ use lib.ListN.{length}
 use denote.Ref.{now}
 use Rattle.files.proofs.Joined.{piece-length}
 use Rattle.cuts.specs.Cut.{Cut}
+use Rattle.cuts.proofs.Numbers.{mask-small}
 use Rattle.cuts.proofs.Given.{GoodCut, good-cut}
 use Rattle.writer.specs.Promises.{cutOf}
 use Rattle.writer.proofs.Orders.{countable}
@@ -66,7 +67,7 @@ put-group-requires c κs =
     let turn = c .before in
     let g = good (start turn) in
     let s = turn .before .loop .inv in
-    (group-inside g s (turn .loop-test .taken), group-fits g s (turn .loop-test .taken))
+    (mask-small _ _ (g .grouped) (g .choice), (group-inside g s (turn .loop-test .taken), group-fits g s (turn .loop-test .taken)))
 
 add-base : tie.Need-add-base Inv-loop μ-loop
 add-base c = omega (arith, within (c .before .before .before .before))
