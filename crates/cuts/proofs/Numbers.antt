@@ -1,6 +1,6 @@
 -- The chosen channels and the chosen numbers, place by place (specs/Laws, Numbers-told).
 use Prim.Native.Nat.{ℕ, zero, suc, _+_, _*_, _^_, _<_, zero-le}
-use mathlib.Core.Path.{_≡_, sym, ap, _∙_}
+use mathlib.Core.Path.{_≡_, refl, sym, ap, _∙_}
 use mathlib.Core.Bool.{true}
 use mathlib.Core.List.{List, [], _∷_, _++_, map}
 use native.Mathlib.Nat.{div-one, suc-mul}
@@ -38,66 +38,74 @@ module _ (q : Cut) (n : ℕ) (g : Grouped q n) (c : GoodChoice q n) where
 
 -- ---- The numbers
 
-module _ (q : Cut) where
+-- of any channels, since a lemma over those of a mask that is refused is computed twenty bits deep
+module _ (q : Cut) (ks : List ℕ) where
   abbrev c : ℕ
-  c = length (chosen q)
+  c = length ks
 
-  from-long : (j n : ℕ) → length (numbersFrom q j n) ≡ n * c
+  from-long : (j n : ℕ) → length (numbersFrom q ks j n) ≡ n * c
   unfolding numbersFrom
   from-long j zero = omega arith
   from-long j (suc n) =
-      length-append (map (sample q j) (chosen q)) (numbersFrom q (suc j) n)
-      ∙ omega (arith, length-map (chosen q) (sample q j), from-long (suc j) n, suc-mul n c)
+      length-append (map (sample q j) ks) (numbersFrom q ks (suc j) n)
+      ∙ omega (arith, length-map ks (sample q j), from-long (suc j) n, suc-mul n c)
 
-  pub numbers-long : length (numbers q) ≡ groups q * c
-  unfolding numbers
-  numbers-long = from-long (q .first) (groups q)
-
-  from-at : (a n j i : ℕ) → j < n → i < c → getD (numbersFrom q a n) (j * c + i) 0 ≡ sample q (a + j) (getD (chosen q) i 0)
+  from-at : (a n j i : ℕ) → j < n → i < c → getD (numbersFrom q ks a n) (j * c + i) 0 ≡ sample q (a + j) (getD ks i 0)
   unfolding numbersFrom
   from-at a zero j i l k = absurd (omega arith)
   from-at a (suc n) zero i l k =
-      let group : List ℕ = map (sample q a) (chosen q) in
+      let group : List ℕ = map (sample q a) ks in
       let e : 0 * c + i ≡ i = omega arith in
       let z : a ≡ a + 0 = omega arith in
-      let inside : i < length group = omega (arith, length-map (chosen q) (sample q a)) in
-      ap (λ (x : ℕ). getD (group ++ numbersFrom q (suc a) n) x 0) e
-      ∙ List·getD-append group (numbersFrom q (suc a) n) 0 i inside
-      ∙ map-at (sample q a) (chosen q) i 0 k
-      ∙ ap (λ (x : ℕ). sample q x (getD (chosen q) i 0)) z
+      let inside : i < length group = omega (arith, length-map ks (sample q a)) in
+      ap (λ (x : ℕ). getD (group ++ numbersFrom q ks (suc a) n) x 0) e
+      ∙ List·getD-append group (numbersFrom q ks (suc a) n) 0 i inside
+      ∙ map-at (sample q a) ks i 0 k
+      ∙ ap (λ (x : ℕ). sample q x (getD ks i 0)) z
   from-at a (suc n) (suc j) i l k =
-      let group : List ℕ = map (sample q a) (chosen q) in
+      let group : List ℕ = map (sample q a) ks in
       let s : suc a + j ≡ a + suc j = omega arith in
-      let e : suc j * c + i ≡ length group + (j * c + i) = omega (arith, length-map (chosen q) (sample q a), suc-mul j c) in
-      ap (λ (x : ℕ). getD (group ++ numbersFrom q (suc a) n) x 0) e
-      ∙ getD-append-add group (numbersFrom q (suc a) n) (j * c + i) 0
+      let e : suc j * c + i ≡ length group + (j * c + i) = omega (arith, length-map ks (sample q a), suc-mul j c) in
+      ap (λ (x : ℕ). getD (group ++ numbersFrom q ks (suc a) n) x 0) e
+      ∙ getD-append-add group (numbersFrom q ks (suc a) n) (j * c + i) 0
       ∙ from-at (suc a) n j i (omega arith) k
-      ∙ ap (λ (x : ℕ). sample q x (getD (chosen q) i 0)) s
+      ∙ ap (λ (x : ℕ). sample q x (getD ks i 0)) s
 
-  pub numbers-at : (j i : ℕ) → j < groups q → i < c → getD (numbers q) (j * c + i) 0 ≡ sample q (q .first + j) (getD (chosen q) i 0)
+  -- each is a number of the recording
+  from-small : Sixteen (q .recording) → (a n i : ℕ) → getD (numbersFrom q ks a n) i 0 < 0x10000
+  unfolding numbersFrom sample
+  from-small f a zero i = omega arith
+  from-small f a (suc n) i = joined (from-small f (suc a) n) ks i
+    where
+      joined : ((i : ℕ) → getD (numbersFrom q ks (suc a) n) i 0 < 0x10000) → (js : List ℕ) (i : ℕ)
+          → getD (map (sample q a) js ++ numbersFrom q ks (suc a) n) i 0 < 0x10000
+      joined later [] i = later i
+      joined later (j ∷ js) zero = f _
+      joined later (j ∷ js) (suc i) = joined later js i
+
+-- ---- Those of the chosen channels
+
+module _ (q : Cut) where
+  pub numbers-long : length (numbers q) ≡ groups q * length (chosen q)
   unfolding numbers
-  numbers-at j i = from-at (q .first) (groups q) j i
+  numbers-long = from-long q (chosen q) (q .first) (groups q)
 
--- ---- Their size
+  pub numbers-at : (j i : ℕ) → j < groups q → i < length (chosen q)
+      → getD (numbers q) (j * length (chosen q) + i) 0 ≡ sample q (q .first + j) (getD (chosen q) i 0)
+  unfolding numbers
+  numbers-at j i = from-at q (chosen q) (q .first) (groups q) j i
 
--- each is a number of the recording
-numbers-small-from : (q : Cut) → Sixteen (q .recording) → (a n i : ℕ) → getD (numbersFrom q a n) i 0 < 0x10000
-unfolding numbersFrom sample
-numbers-small-from q f a zero i = omega arith
-numbers-small-from q f a (suc n) i = joined (numbers-small-from q f (suc a) n) (chosen q) i
-  where
-    joined : ((i : ℕ) → getD (numbersFrom q (suc a) n) i 0 < 0x10000) → (ks : List ℕ) (i : ℕ)
-        → getD (map (sample q a) ks ++ numbersFrom q (suc a) n) i 0 < 0x10000
-    joined later [] i = later i
-    joined later (k ∷ ks) zero = f _
-    joined later (k ∷ ks) (suc i) = joined later ks i
+  pub numbers-small : Sixteen (q .recording) → (i : ℕ) → getD (numbers q) i 0 < 0x10000
+  unfolding numbers
+  numbers-small f i = from-small q (chosen q) f (q .first) (groups q) i
 
-pub numbers-small : (q : Cut) → Sixteen (q .recording) → (i : ℕ) → getD (numbers q) i 0 < 0x10000
-unfolding numbers
-numbers-small q f i = numbers-small-from q f (q .first) (groups q) i
+-- where a number stands in the recording
+sample-there : (q : Cut) (j k : ℕ) → sample q j k ≡ getD (q .recording) (j * q .channels + k) 0
+unfolding sample
+sample-there q j k = refl
 
 pub numbers-told : Numbers-told
-unfolding sample groups
+unfolding groups
 numbers-told q n g c =
     let e = chosen-ones q n g c in
     record {
@@ -105,5 +113,7 @@ numbers-told q n g c =
       groups-cut = omega (arith, c .forward);
       long = numbers-long q ∙ ap (λ (x : ℕ). groups q * x) e;
       there = λ j i l k.
-          ap (λ (x : ℕ). getD (numbers q) (j * x + i) 0) (sym e) ∙ numbers-at q j i l (omega (arith, e));
+          ap (λ (x : ℕ). getD (numbers q) (j * x + i) 0) (sym e)
+          ∙ numbers-at q j i l (omega (arith, e))
+          ∙ sample-there q (q .first + j) (getD (chosen q) i 0);
     }

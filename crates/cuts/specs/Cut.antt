@@ -40,20 +40,21 @@ eofOnLast (v ∷ w ∷ vs) = v ∷ eofOnLast (w ∷ vs)
 unfoldable pub sample : Cut → ℕ → ℕ → ℕ
 sample q j k = getD (q .recording) (j * q .channels + k) 0
 
+-- "in ascending channels"
 abbrev pub chosen : Cut → List ℕ
 chosen q = activeFrom 0 (q .mask)
 
--- 02: "group after group in ascending channels"; n groups from the group j on
-unfoldable pub numbersFrom : Cut → ℕ → ℕ → List ℕ
-numbersFrom q j zero = []
-numbersFrom q j (suc n) = map (sample q j) (chosen q) ++ numbersFrom q (suc j) n
+-- 02: "group after group"; those of the channels ks, of n groups from the group j on
+unfoldable pub numbersFrom : Cut → List ℕ → ℕ → ℕ → List ℕ
+numbersFrom q ks j zero = []
+numbersFrom q ks j (suc n) = map (sample q j) ks ++ numbersFrom q ks (suc j) n
 
 -- "groups a to b (.. both taken)"
 unfoldable pub groups : Cut → ℕ
 groups q = suc (q .last) - q .first
 
 unfoldable pub numbers : Cut → List ℕ
-numbers q = numbersFrom q (q .first) (groups q)
+numbers q = numbersFrom q (chosen q) (q .first) (groups q)
 
 -- ---- The session
 

@@ -21,7 +21,7 @@ use Rattle.writer.proofs.Marks.{loads-long, loads-append, loads-over, l
 -- ---- The numbers from a group on
 
 abbrev numbersOn : Cut → ℕ → List ℕ
-numbersOn q j = numbersFrom q j (suc (q .last) - j)
+numbersOn q j = numbersFrom q (chosen q) j (suc (q .last) - j)
 
 module _ (q : Cut) (j : ℕ) where
   numbers-next : j ≤ q .last → groupAt (q .recording) (j * q .channels) (chosen q) ++ numbersOn q (suc j) ≡ numbersOn q j
@@ -29,11 +29,11 @@ module _ (q : Cut) (j : ℕ) where
   numbers-next l =
       let e : suc (q .last) - suc j ≡ q .last - j = omega arith in
       let f : suc (q .last - j) ≡ suc (q .last) - j = omega arith in
-      ap (λ (n : ℕ). numbersFrom q j (suc n)) e ∙ ap (numbersFrom q j) f
+      ap (λ (n : ℕ). numbersFrom q (chosen q) j (suc n)) e ∙ ap (numbersFrom q (chosen q) j) f
 
   numbers-over : q .last < j → numbersOn q j ≡ []
   unfolding numbersFrom
-  numbers-over l = let e : suc (q .last) - j ≡ 0 = omega arith in ap (numbersFrom q j) e
+  numbers-over l = let e : suc (q .last) - j ≡ 0 = omega arith in ap (numbersFrom q (chosen q) j) e
 
 -- ---- A good order: where its session ends, and where its first group begins
 
