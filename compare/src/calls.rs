@@ -2,15 +2,13 @@
 //! that differ are shortened and printed.
 
 use crate::guarded::Wrongs;
-use crate::options::{self, Options};
-use crate::panics;
+use crate::options::Options;
 use crate::process::{self, End, Progress};
+use crate::rounds::{self, NOT_ALONE, SECONDS};
 
-/// The other side has this long for one call, in seconds.
-const CALL_SECONDS: u32 = 20;
-/// So many differences are printed.
-const PRINTED: u64 = 3;
-/// And so many lines of each.
+/// What is counted.
+const ONE: &str = "call";
+/// So many lines of a difference are printed.
 const LINES: usize = 40;
 /// Runs that shortening may take, when each needs a child process, and when each
 /// of these waits for its time limit.
@@ -34,14 +32,9 @@ pub trait Trial: Sized {
     fn print_sides(&self);
 }
 
-/// A whole program: takes its words, and runs it in a child process.
+/// A whole program.
 pub fn program<T: Trial>(script: &str, help: &str, run: fn(&Options, &Progress) -> i32) -> ! {
-    let options = options::given(script, help, ("--calls", 100_000), |_| false);
-    panics::quiet();
-    process::watched(
-        |progress| run(&options, progress),
-        |progress, signal| died::<T>(&options, progress, signal),
-    )
+    rounds::program(script, help, ONE, run, died::<T>)
 }
 
 /// Compares those that the options ask for: answers how many, and how many
@@ -50,35 +43,19 @@ pub fn program<T: Trial>(script: &str, help: &str, run: fn(&Options, &Progress) 
 pub fn each<T: Trial>(
     options: &Options,
     progress: &Progress,
-    mut compare: impl FnMut(u64) -> Option<(T, Wrongs)>,
+    compare: impl FnMut(u64) -> Option<(T, Wrongs)>,
 ) -> (u64, u64) {
-    println!("seed {}", options.seed);
-    let (mut total, mut differ) = (0, 0);
-    for index in options.indices() {
-        progress.set(0, index);
-        process::time_limit(CALL_SECONDS);
-        let found = compare(index);
-        total += 1;
-        progress.set(2, total);
-        let Some((trial, wrongs)) = found else {
-            continue;
-        };
-        differ += 1;
-        progress.set(3, differ);
-        if differ <= PRINTED {
-            process::time_limit(20 * CALL_SECONDS);
-            report(options, index, &trial, &wrongs);
-        }
-    }
-    (total, differ)
+    rounds::each(options, progress, compare, |index, trial, wrongs| {
+        report(options, index, trial, wrongs);
+    })
 }
 
 /// Prints a trial that differs, as short as can be.
 fn report<T: Trial>(options: &Options, index: u64, trial: &T, wrongs: &Wrongs) {
     let words = |wrongs: &Wrongs| format!("{} (model/ours)", wrongs.join(", "));
-    difference(options, index, trial, &words(wrongs));
+    rounds::difference(options, ONE, index, &trial.name(), &words(wrongs));
     if trial.alone().is_empty() {
-        println!("It does not differ by itself: the other side seems to remember something.");
+        println!("{NOT_ALONE}");
         trial.print(LINES);
     } else {
         let short = trial.shortened(TRIES, |trial| !trial.alone().is_empty());
@@ -94,12 +71,12 @@ fn report<T: Trial>(options: &Options, index: u64, trial: &T, wrongs: &Wrongs) {
 fn died<T: Trial>(options: &Options, progress: &Progress, signal: i32) -> i32 {
     let index = progress.get(0);
     let trial = T::new(options.seed, index, progress.get(1));
-    let waits = signal == 14;
-    let limit = if waits { ", the time limit" } else { "" };
-    let what = format!("ours died of signal {signal}{limit}");
-    difference(options, index, &trial, &what);
-    let limit = if waits { 1 } else { CALL_SECONDS };
-    let tries = if waits { WAITING_TRIES } else { CHILD_TRIES };
+    rounds::difference(options, ONE, index, &trial.name(), &rounds::death(signal));
+    let (limit, tries) = if signal == 14 {
+        (1, WAITING_TRIES)
+    } else {
+        (SECONDS, CHILD_TRIES)
+    };
     let dies = |trial: &T| {
         let end = process::in_child(|| {
             process::time_limit(limit);
@@ -117,21 +94,10 @@ fn died<T: Trial>(options: &Options, progress: &Progress, signal: i32) -> i32 {
         trial.print(LINES);
     }
     println!();
-    end((progress.get(2) + 1, progress.get(3) + 1))
-}
-
-/// The line that opens a difference.
-fn difference(options: &Options, index: u64, trial: &impl Trial, what: &str) {
-    println!();
-    println!(
-        "DIFFERENCE in call {index} of seed {} ({}): {what}",
-        options.seed,
-        trial.name()
-    );
+    end(rounds::with_the_last(progress))
 }
 
 /// The last line. Answers the exit status.
-pub fn end((total, differ): (u64, u64)) -> i32 {
-    println!("{total} calls, {differ} differ");
-    (differ > 0) as i32
+pub fn end(counted: (u64, u64)) -> i32 {
+    rounds::end(ONE, counted)
 }

@@ -23,6 +23,7 @@ pub mod process;
 pub mod question;
 pub mod rng;
 pub mod room;
+pub mod rounds;
 pub mod shorten;
 pub mod trials;
 pub mod words;

@@ -1,7 +1,73 @@
 //! The output of a call that writes a session, how long it is, and the place:
 //! such that the session fits, just fits, or misses by one byte or by far.
 
+use crate::file::LONGEST;
 use crate::rng::Rng;
+
+/// Where a session is to stand.
+#[derive(Clone, Copy)]
+pub struct Spot {
+    /// How long the session is, or would be.
+    pub length: usize,
+    pub room: usize,
+    pub place: usize,
+}
+
+impl Spot {
+    /// How many bytes there are from the place on.
+    pub fn left(&self) -> usize {
+        self.room.saturating_sub(self.place)
+    }
+
+    /// "20 a place past the output's end"
+    pub fn is_past(&self) -> bool {
+        self.place > self.room
+    }
+
+    /// "21 when the whole session doesn't fit", and the place is not past the end.
+    pub fn is_tight(&self) -> bool {
+        !self.is_past() && self.length > self.left()
+    }
+
+    /// For `--coverage`: what a session that is written may meet.
+    pub fn written(&self) -> [(&'static str, bool); 6] {
+        let (length, left) = (self.length, self.left());
+        [
+            ("a session above 65,536 bytes", length > LONGEST),
+            ("from place 0", self.place == 0),
+            ("from a later place", self.place > 0),
+            ("up to the output's last byte", left == length),
+            ("one byte to spare", left == length + 1),
+            ("many bytes to spare", left > length + 1),
+        ]
+    }
+
+    /// And one whose place is past the end.
+    pub fn past(&self) -> [(&'static str, bool); 5] {
+        let (room, place) = (self.room, self.place);
+        let low = place as u32 as usize;
+        [
+            ("one past the end", place.wrapping_sub(room) == 1),
+            ("an empty output", room == 0),
+            ("the largest place", place == usize::MAX),
+            ("its low 32 bits inside", low < place && low <= room),
+            (
+                "the session's end wraps round to inside",
+                place.wrapping_add(self.length) <= room,
+            ),
+        ]
+    }
+
+    /// And one that does not fit.
+    pub fn tight(&self) -> [(&'static str, bool); 4] {
+        [
+            ("one byte short", self.left() + 1 == self.length),
+            ("the place is the output's end", self.left() == 0),
+            ("an empty output", self.room == 0),
+            ("a session above 65,536 bytes", self.length > LONGEST),
+        ]
+    }
+}
 
 /// The output's length and the place, for a session of so many bytes.
 pub fn choose(length: usize, rng: &mut Rng) -> (usize, usize) {
@@ -19,7 +85,7 @@ pub fn choose(length: usize, rng: &mut Rng) -> (usize, usize) {
         16 => return (0, place),
         _ => {
             let room = rng.pick(&[0, near, far, length]);
-            return (room, past(room, length, rng));
+            return (room, past_the_end(room, length, rng));
         }
     };
     (room, place)
@@ -27,7 +93,7 @@ pub fn choose(length: usize, rng: &mut Rng) -> (usize, usize) {
 
 /// A place past the output's end: by one, by some, or so far that the end of the
 /// session, or the place in 32 bits, would be inside.
-fn past(room: usize, length: usize, rng: &mut Rng) -> usize {
+fn past_the_end(room: usize, length: usize, rng: &mut Rng) -> usize {
     let some = 2 + rng.below(100) as usize;
     let inside = rng.below(1 + room as u32) as usize;
     let around = inside.wrapping_sub(length);

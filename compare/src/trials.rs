@@ -2,15 +2,14 @@
 //! first few that differ are shortened and printed.
 
 use crate::guarded::Wrongs;
-use crate::options::{self, Options};
-use crate::process::{self, Progress};
-use crate::{hex, panics, shorten};
+use crate::options::Options;
+use crate::process::Progress;
+use crate::rounds::{self, NOT_ALONE};
+use crate::{hex, shorten};
 
-/// The other side has this long for one session, in seconds.
-const SESSION_SECONDS: u32 = 20;
-/// So many differences are printed.
-const PRINTED: u64 = 3;
-/// And so many lines of each.
+/// What is counted.
+const ONE: &str = "session";
+/// So many lines of a difference are printed.
 const LINES: usize = 200;
 
 /// A session file, and what else is lent with it.
@@ -28,14 +27,9 @@ pub trait Trial {
     fn print_sides(&self);
 }
 
-/// A whole program: takes its words, and runs it in a child process.
+/// A whole program.
 pub fn program<T: Trial>(script: &str, help: &str, run: fn(&Options, &Progress) -> i32) -> ! {
-    let options = options::given(script, help, ("--sessions", 100_000), |_| false);
-    panics::quiet();
-    process::watched(
-        |progress| run(&options, progress),
-        |progress, signal| died::<T>(&options, progress, signal),
-    )
+    rounds::program(script, help, ONE, run, died::<T>)
 }
 
 /// Compares those that the options ask for: answers how many, and how many
@@ -45,38 +39,26 @@ pub fn each<T: Trial>(
     progress: &Progress,
     mut compare: impl FnMut(u64, &T) -> Wrongs,
 ) -> (u64, u64) {
-    println!("seed {}", options.seed);
-    let (mut total, mut differ) = (0, 0);
-    for index in options.indices() {
-        progress.set(0, index);
-        process::time_limit(SESSION_SECONDS);
+    let compared = |index| {
         let trial = T::new(options.seed, index);
         if options.only.is_some() {
-            println!("session {index}: {}", trial.name());
+            println!("{ONE} {index}: {}", trial.name());
             print!("{}", hex::text(trial.bytes()));
         }
         let wrongs = compare(index, &trial);
-        total += 1;
-        progress.set(2, total);
-        if wrongs.is_empty() {
-            continue;
-        }
-        differ += 1;
-        progress.set(3, differ);
-        if differ <= PRINTED {
-            process::time_limit(20 * SESSION_SECONDS);
-            report(options, index, &trial, &wrongs);
-        }
-    }
-    (total, differ)
+        (!wrongs.is_empty()).then_some((trial, wrongs))
+    };
+    rounds::each(options, progress, compared, |index, trial, wrongs| {
+        report(options, index, trial, wrongs);
+    })
 }
 
 /// Prints a trial that differs, as short as can be.
 fn report<T: Trial>(options: &Options, index: u64, trial: &T, wrongs: &Wrongs) {
     let words = |wrongs: &Wrongs| format!("{} (model/ours)", wrongs.join("; "));
-    difference(options, index, trial, &words(wrongs));
+    rounds::difference(options, ONE, index, &trial.name(), &words(wrongs));
     if trial.alone().is_empty() {
-        println!("It does not differ by itself: the other side seems to remember something.");
+        println!("{NOT_ALONE}");
         hex::print(trial.bytes(), LINES);
         println!();
         return;
@@ -98,26 +80,13 @@ fn report<T: Trial>(options: &Options, index: u64, trial: &T, wrongs: &Wrongs) {
 fn died<T: Trial>(options: &Options, progress: &Progress, signal: i32) -> i32 {
     let index = progress.get(0);
     let trial = T::new(options.seed, index);
-    let limit = if signal == 14 { ", the time limit" } else { "" };
-    let what = format!("ours died of signal {signal}{limit}");
-    difference(options, index, &trial, &what);
+    rounds::difference(options, ONE, index, &trial.name(), &rounds::death(signal));
     hex::print(trial.bytes(), LINES);
     println!();
-    end((progress.get(2) + 1, progress.get(3) + 1))
-}
-
-/// The line that opens a difference.
-fn difference(options: &Options, index: u64, trial: &impl Trial, what: &str) {
-    println!();
-    println!(
-        "DIFFERENCE in session {index} of seed {} ({}): {what}",
-        options.seed,
-        trial.name()
-    );
+    end(rounds::with_the_last(progress))
 }
 
 /// The last line. Answers the exit status.
-pub fn end((total, differ): (u64, u64)) -> i32 {
-    println!("{total} sessions, {differ} differ");
-    (differ > 0) as i32
+pub fn end(counted: (u64, u64)) -> i32 {
+    rounds::end(ONE, counted)
 }

@@ -8,7 +8,7 @@ use super::order::{Order, LARGEST_GROUP};
 use super::plays::Plays;
 use super::recording::CORNERS;
 use compare::counts::Counts;
-use compare::file::LONGEST;
+use compare::room::Spot;
 
 #[derive(Default)]
 pub struct Tally {
@@ -21,26 +21,12 @@ struct Seen<'a> {
     refusal: Option<u32>,
     order: &'a Order,
     faults: Faults,
-    /// How long the session is, or would be.
-    length: usize,
-    room: usize,
-    place: usize,
-    /// How many bytes there are from the place on.
-    left: usize,
+    spot: Spot,
 }
 
 impl Seen<'_> {
     fn refused(&self, refusal: u32) -> bool {
         self.refusal == Some(refusal)
-    }
-
-    fn place_past(&self) -> bool {
-        self.place > self.room
-    }
-
-    /// The place is not past the end, but the session does not fit.
-    fn tight(&self) -> bool {
-        !self.place_past() && self.length > self.left
     }
 }
 
@@ -50,25 +36,25 @@ impl Tally {
             refusal: found.sides.model.refusal,
             order: &call.order,
             faults: Faults::of(&call.order),
-            length: call.order.length(),
-            room: call.room,
-            place: call.place,
-            left: call.room.saturating_sub(call.place),
+            spot: Spot {
+                length: call.order.length(),
+                room: call.room,
+                place: call.place,
+            },
         };
         self.calls.begin();
         self.written(&seen);
         self.groupings(&seen);
         self.choices(&seen);
         self.groups(&seen);
-        self.places(&seen);
-        self.rooms(&seen);
+        self.outputs(&seen);
         if let (Some(play), Some(played)) = (&call.play, found.played) {
             self.plays.note(&call.order, play, played);
         }
     }
 
     fn written(&mut self, seen: &Seen) {
-        let (order, length, left) = (seen.order, seen.length, seen.left);
+        let order = seen.order;
         let chosen = order.chosen();
         let gaps = chosen.windows(2).any(|two| two[1] > two[0] + 1);
         let all = chosen.len() == order.channels as usize;
@@ -87,13 +73,8 @@ impl Tally {
             ("a choice with gaps", gaps),
             ("a single channel of several", chosen.len() == 1 && !all),
             ("without channel 0", order.mask & 1 == 0),
-            ("a session above 65,536 bytes", length > LONGEST),
-            ("from place 0", seen.place == 0),
-            ("from a later place", seen.place > 0),
-            ("up to the output's last byte", left == length),
-            ("one byte to spare", left == length + 1),
-            ("many bytes to spare", left > length + 1),
         ];
+        let meetings = [&meetings[..], &seen.spot.written()].concat();
         let written = seen.refused(0) && seen.faults.none();
         self.calls.hits("written", written, &meetings);
         for corner in CORNERS {
@@ -131,8 +112,8 @@ impl Tally {
             ("a channel outside too", faults.outside),
             ("groups out of range too", faults.past),
             ("groups reversed too", faults.reversed),
-            ("a place past the end too", seen.place_past()),
-            ("too little room too", seen.tight()),
+            ("a place past the end too", seen.spot.is_past()),
+            ("too little room too", seen.spot.is_tight()),
         ];
         let refused = seen.refused(22);
         self.calls.hits("refused 22", refused, &meetings);
@@ -163,8 +144,8 @@ impl Tally {
                 "a channel outside, reversed too",
                 faults.outside && reversed,
             ),
-            ("a place past the end too", seen.place_past()),
-            ("too little room too", seen.tight()),
+            ("a place past the end too", seen.spot.is_past()),
+            ("too little room too", seen.spot.is_tight()),
         ];
         self.calls.hits("refused 23", seen.refused(23), &meetings);
     }
@@ -217,30 +198,12 @@ impl Tally {
             .hits("refused 23, a good choice", refused, &meetings);
     }
 
-    fn places(&mut self, seen: &Seen) {
-        let (room, place) = (seen.room, seen.place);
-        let low = place as u32 as usize;
-        let meetings = [
-            ("one past the end", place.wrapping_sub(room) == 1),
-            ("an empty output", room == 0),
-            ("the largest place", place == usize::MAX),
-            ("its low 32 bits inside", low < place && low <= room),
-            (
-                "the session's end wraps round to inside",
-                place.wrapping_add(seen.length) <= room,
-            ),
-        ];
-        self.calls.hits("refused 20", seen.refused(20), &meetings);
-    }
-
-    fn rooms(&mut self, seen: &Seen) {
-        let meetings = [
-            ("one byte short", seen.left + 1 == seen.length),
-            ("the place is the output's end", seen.left == 0),
-            ("an empty output", seen.room == 0),
-            ("a session above 65,536 bytes", seen.length > LONGEST),
-        ];
-        self.calls.hits("refused 21", seen.refused(21), &meetings);
+    fn outputs(&mut self, seen: &Seen) {
+        let spot = seen.spot;
+        self.calls
+            .hits("refused 20", seen.refused(20), &spot.past());
+        self.calls
+            .hits("refused 21", seen.refused(21), &spot.tight());
     }
 
     pub fn print(&self) {

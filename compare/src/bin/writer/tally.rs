@@ -6,7 +6,8 @@ use super::lent::Found;
 use super::rows::{events, most, session, ROW, UNKNOWN};
 use compare::counts::Counts;
 use compare::fields::*;
-use compare::file::{widths, LONGEST};
+use compare::file::widths;
+use compare::room::Spot;
 
 #[derive(Default)]
 pub struct Tally {
@@ -20,12 +21,7 @@ struct Seen {
     events: Vec<Event>,
     /// The bad events: where they stand, and what is wrong first.
     faults: Vec<(usize, Fault)>,
-    /// How long the session is, or would be.
-    length: usize,
-    room: usize,
-    place: usize,
-    /// How many bytes there are from the place on.
-    left: usize,
+    spot: Spot,
 }
 
 impl Seen {
@@ -36,15 +32,6 @@ impl Seen {
     /// There is something wrong with a later event too.
     fn later(&self, what: Fault) -> bool {
         self.faults.iter().skip(1).any(|(_, fault)| *fault == what)
-    }
-
-    fn past(&self) -> bool {
-        self.place > self.room
-    }
-
-    /// The place is not past the end, but the session does not fit.
-    fn tight(&self) -> bool {
-        !self.past() && self.length > self.left
     }
 
     /// The event that decides, or one without fault.
@@ -63,10 +50,11 @@ impl Tally {
             rows: call.rows.len(),
             faults: events.iter().enumerate().filter_map(bad).collect(),
             events,
-            length: session(&call.rows),
-            room: call.room,
-            place: call.place,
-            left: call.room.saturating_sub(call.place),
+            spot: Spot {
+                length: session(&call.rows),
+                room: call.room,
+                place: call.place,
+            },
         };
         self.counts.begin();
         self.written(&seen);
@@ -74,22 +62,13 @@ impl Tally {
         self.kinds(&seen);
         self.fields(&seen);
         self.first_of_several(&seen);
-        self.places(&seen);
-        self.rooms(&seen);
+        self.outputs(&seen);
     }
 
     fn written(&mut self, seen: &Seen) {
-        let (length, left) = (seen.length, seen.left);
         let written = seen.refused(0);
-        let meetings = [
-            ("no events", seen.events.is_empty()),
-            ("a session above 65,536 bytes", length > LONGEST),
-            ("from place 0", seen.place == 0),
-            ("from a later place", seen.place > 0),
-            ("up to the output's last byte", left == length),
-            ("one byte to spare", left == length + 1),
-            ("many bytes to spare", left > length + 1),
-        ];
+        let empty = [("no events", seen.events.is_empty())];
+        let meetings = [&empty[..], &seen.spot.written()].concat();
         self.counts.hits("written", written, &meetings);
         for kind in POWER_UP..=SETTLED {
             let there = seen.events.iter().any(|event| event[0] == kind);
@@ -111,8 +90,8 @@ impl Tally {
         let meetings = [
             ("less than an event", seen.events.is_empty()),
             ("a bad event before the cut", !seen.faults.is_empty()),
-            ("a place past the end", seen.past()),
-            ("too little room", seen.tight()),
+            ("a place past the end", seen.spot.is_past()),
+            ("too little room", seen.spot.is_tight()),
         ];
         self.counts.hits("refused 32", refused, &meetings);
         for more in 1..ROW {
@@ -127,8 +106,8 @@ impl Tally {
             ("30 in the same event", bad[1..] != [0; 5]),
             ("30 in a later event", seen.later(Fault::Field)),
             ("13 in a later event", seen.later(Fault::Kind)),
-            ("a place past the end", seen.past()),
-            ("too little room", seen.tight()),
+            ("a place past the end", seen.spot.is_past()),
+            ("too little room", seen.spot.is_tight()),
         ];
         self.counts.hits("refused 13", refused, &meetings);
         for kind in UNKNOWN {
@@ -142,8 +121,8 @@ impl Tally {
         let meetings = [
             ("13 in a later event", seen.later(Fault::Kind)),
             ("30 in a later event", seen.later(Fault::Field)),
-            ("a place past the end", seen.past()),
-            ("too little room", seen.tight()),
+            ("a place past the end", seen.spot.is_past()),
+            ("too little room", seen.spot.is_tight()),
         ];
         self.counts.hits("refused 30", refused, &meetings);
         for kind in POWER_UP..=SETTLED {
@@ -180,32 +159,12 @@ impl Tally {
         self.counts.hits("refused 13 or 30", refused, &meetings);
     }
 
-    fn places(&mut self, seen: &Seen) {
-        let (room, place) = (seen.room, seen.place);
-        let low = place as u32 as usize;
-        let meetings = [
-            ("one past the end", place.wrapping_sub(room) == 1),
-            ("an empty output", room == 0),
-            ("no events", seen.events.is_empty()),
-            ("the largest place", place == usize::MAX),
-            ("its low 32 bits inside", low < place && low <= room),
-            (
-                "the session's end wraps round to inside",
-                place.wrapping_add(seen.length) <= room,
-            ),
-        ];
-        self.counts.hits("refused 20", seen.refused(20), &meetings);
-    }
-
-    fn rooms(&mut self, seen: &Seen) {
-        let meetings = [
-            ("one byte short", seen.left + 1 == seen.length),
-            ("the place is the output's end", seen.left == 0),
-            ("an empty output", seen.room == 0),
-            ("no events", seen.events.is_empty()),
-            ("a session above 65,536 bytes", seen.length > LONGEST),
-        ];
-        self.counts.hits("refused 21", seen.refused(21), &meetings);
+    fn outputs(&mut self, seen: &Seen) {
+        let empty = [("no events", seen.events.is_empty())];
+        let past = [&empty[..], &seen.spot.past()].concat();
+        self.counts.hits("refused 20", seen.refused(20), &past);
+        let tight = [&empty[..], &seen.spot.tight()].concat();
+        self.counts.hits("refused 21", seen.refused(21), &tight);
     }
 
     pub fn print(&self) {
