@@ -6,20 +6,20 @@ use Rattle.rules.specs.Bits.{active, all}
 use Rattle.rules.specs.Refusals.{firstOf}
 use Rattle.rules.proofs.Bench.{alike, alike-equal}
 use Rattle.files.specs.Bytes.{recordsOf, fileOf}
-use Rattle.cuts.specs.Cut.{sample, eofOnLast, numbersFrom, groups, numbers, events, isGrouped, isChoice, cutRefusal, cutEnd, cutOutput}
+use Rattle.cuts.specs.Cut.{sample, chosen, eofOnLast, numbersFrom, groups, numbers, events, isGrouped, isChoice, cutRefusal, cutEnd, cutOutput}
 use Rattle.cuts.specs.Examples.{cutOfFour, fourNumbers, fourWritten, Cut-shown, Refusals-shown}
 
 -- as tests: one that does not hold is told at once
 chosen-true : alike (numbers cutOfFour) fourNumbers ≡ true
-unfolding alike active sample eofOnLast numbersFrom groups numbers
+unfolding alike active sample chosen eofOnLast numbersFrom groups numbers
 chosen-true = refl
 
 output-true : alike (cutOutput cutOfFour (replicate 44 0xEE) 2) fourWritten ≡ true
-unfolding alike active all firstOf recordsOf fileOf sample eofOnLast numbersFrom groups numbers events isGrouped isChoice cutRefusal cutOutput
+unfolding alike active all firstOf recordsOf fileOf sample chosen eofOnLast numbersFrom groups numbers events isGrouped isChoice cutRefusal cutOutput
 output-true = refl
 
 pub cut-shown : Cut-shown
-unfolding active all firstOf recordsOf fileOf sample eofOnLast numbersFrom groups numbers events isGrouped isChoice cutRefusal cutEnd
+unfolding active all firstOf recordsOf fileOf sample chosen eofOnLast numbersFrom groups numbers events isGrouped isChoice cutRefusal cutEnd
 cut-shown =
     record {
       chosen = alike-equal (numbers cutOfFour) fourNumbers chosen-true;
@@ -29,7 +29,7 @@ cut-shown =
     }
 
 pub refusals-shown : Refusals-shown
-unfolding active all firstOf recordsOf fileOf sample eofOnLast numbersFrom groups numbers events isGrouped isChoice cutRefusal
+unfolding active all firstOf recordsOf fileOf sample chosen eofOnLast numbersFrom groups numbers events isGrouped isChoice cutRefusal
 refusals-shown =
     record {
       no-channels = refl;

@@ -51,11 +51,11 @@ equipped q x a m r =
     }
 
 four-good : cutRefusal cutOfFour 73 0 ≡ 0
-unfolding active all firstOf recordsOf fileOf sample eofOnLast numbersFrom groups numbers events isGrouped isChoice cutRefusal
+unfolding active all firstOf recordsOf fileOf sample chosen eofOnLast numbersFrom groups numbers events isGrouped isChoice cutRefusal
 four-good = refl
 
 eight-good : cutRefusal cutOfEight 73 0 ≡ 0
-unfolding active all firstOf recordsOf fileOf sample eofOnLast numbersFrom groups numbers events isGrouped isChoice cutRefusal
+unfolding active all firstOf recordsOf fileOf sample chosen eofOnLast numbersFrom groups numbers events isGrouped isChoice cutRefusal
 eight-good = refl
 
 four-sixteen : allSixteen small ≡ true
@@ -67,11 +67,11 @@ unfolding allSixteen
 eight-sixteen = refl
 
 four-equipped : Equipped cutOfFour (start leftOver) six
-unfolding refusal rows settingRows firstOf depthOf channels active sample numbersFrom groups numbers
+unfolding refusal rows settingRows firstOf depthOf channels active sample chosen numbersFrom groups numbers
 four-equipped = equipped cutOfFour six refl refl refl
 
 eight-equipped : Equipped cutOfEight (start leftOver) twenty
-unfolding refusal rows settingRows firstOf depthOf channels active sample numbersFrom groups numbers
+unfolding refusal rows settingRows firstOf depthOf channels active sample chosen numbersFrom groups numbers
 eight-equipped = equipped cutOfEight twenty refl refl refl
 
 together-plays : Playable 0x90 0x20
@@ -106,11 +106,11 @@ unfolding groups
 eight-groups = refl
 
 eight-channels : length (chosen cutOfEight) ≡ 4
-unfolding active
+unfolding active chosen
 eight-channels = refl
 
 eight-third : getD (chosen cutOfEight) 2 0 ≡ 16
-unfolding active
+unfolding active chosen
 eight-third = refl
 
 four-number : sample cutOfFour (1 + 1) 3 ≡ 0x3003

@@ -1,6 +1,6 @@
 -- The chosen channels and the chosen numbers, place by place (specs/Laws, Numbers-told).
 use Prim.Native.Nat.{ℕ, zero, suc, _+_, _*_, _^_, _<_, zero-le}
-use mathlib.Core.Path.{_≡_, refl, sym, ap, _∙_}
+use mathlib.Core.Path.{_≡_, refl, sym, ap, subst, _∙_}
 use mathlib.Core.Bool.{true}
 use mathlib.Core.List.{List, [], _∷_, _++_, map}
 use native.Mathlib.Nat.{div-one, suc-mul}
@@ -8,7 +8,7 @@ use native.Mathlib.Omega.{arith}
 use lib.Count.{ones}
 use lib.ListN.{length, getD, length-append, length-map, List·getD-append}
 use lib.Seq.{getD-append-add}
-use Rattle.rules.specs.Bits.{bit}
+use Rattle.rules.specs.Bits.{bit, activeFrom}
 use Rattle.rules.proofs.Masks.{below-bits}
 use Rattle.laws.specs.Moved.{ActiveAscending}
 use Rattle.laws.proofs.Actives.{active-to, active-from, active-ascending, active-ones}
@@ -18,6 +18,11 @@ use Rattle.cuts.proofs.Lists.{map-at}
 
 -- ---- The channels
 
+-- the theorems open the definition here alone, so that a wrong one is told once
+pub chosen-is : (q : Cut) → chosen q ≡ activeFrom 0 (q .mask)
+unfolding chosen
+chosen-is q = refl
+
 module _ (q : Cut) (n : ℕ) (g : Grouped q n) (c : GoodChoice q n) where
   chosen-below : (k : ℕ) → bit k (q .mask) ≡ true → k < 20
   chosen-below k t = omega (arith, c .inside k t, g .most)
@@ -26,15 +31,18 @@ module _ (q : Cut) (n : ℕ) (g : Grouped q n) (c : GoodChoice q n) where
   mask-small = below-bits 20 (q .mask) chosen-below
 
   pub chosen-ones : length (chosen q) ≡ ones (q .mask)
-  chosen-ones = let e = div-one (q .mask) in active-ones 20 0 (q .mask) (rw e mask-small) ∙ ap ones e
+  chosen-ones =
+      let e = div-one (q .mask) in
+      ap length (chosen-is q) ∙ active-ones 20 0 (q .mask) (rw e mask-small) ∙ ap ones e
 
   pub chosen-channels : ActiveAscending (q .mask) (chosen q)
   chosen-channels =
-      record {
+      subst (ActiveAscending (q .mask)) (sym (chosen-is q))
+      (record {
         active = λ k. (λ h. (active-to 20 0 (q .mask) k h) .0, λ t. active-from 20 0 (q .mask) k zero-le (chosen-below k t) t);
         ascending = active-ascending 20 0 (q .mask);
-        asManyAsOnes = chosen-ones;
-      }
+        asManyAsOnes = ap length (sym (chosen-is q)) ∙ chosen-ones;
+      })
 
 -- ---- The numbers
 

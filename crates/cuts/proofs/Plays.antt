@@ -23,7 +23,7 @@ use Rattle.laws.proofs.Among.{among-nil, among-cons}
 use Rattle.cuts.specs.Cut.{Cut, sample, chosen, groups, numbers, eofOnLast, events}
 use Rattle.cuts.specs.Plays.{Equipped, Ordered, powered, Fine, Playable, EitherOrder, manyTicks, GroupByGroup, InTurn, OnItsOutput, Channel-plays}
 use Rattle.cuts.proofs.Lists.{eof-told, eof-data}
-use Rattle.cuts.proofs.Numbers.{chosen-channels, numbers-long, numbers-at}
+use Rattle.cuts.proofs.Numbers.{chosen-is, chosen-channels, numbers-long, numbers-at}
 use Rattle.cuts.proofs.Passing.{fine-append, ticks-fine}
 use Rattle.cuts.proofs.Loading.{cut-loaded, cut-stored}
 use Rattle.cuts.proofs.TwoWrites.{Playing, BothDone, two-done}
@@ -79,7 +79,7 @@ module _ (q : Cut) (o : Ordered q) (v : ℕ) (s : State) where
     Before j x = Playing (q .mask) v (drop (j * c) vs) 0 x
 
     all-targets : (j : ℕ) (x : State) → Before j x → targets (x .board .core) ≡ chosen q
-    all-targets j x p = simultaneous-targets _ (q .mask) v 0 (p .ready) mode
+    all-targets j x p = simultaneous-targets _ (q .mask) v 0 (p .ready) mode ∙ sym (chosen-is q)
 
     enough : (j : ℕ) (x : State) → j < groups q → Before j x → length (targets (x .board .core)) ≤ length (drop (j * c) vs)
     enough j x l p = omega (arith, ap length (all-targets j x p), length-drop (j * c) vs, group-left j l)
@@ -163,11 +163,12 @@ module _ (q : Cut) (o : Ordered q) (v : ℕ) (s : State) where
           )
           go (inr e) =
               let whole : chosen q ≡ turn ∷ drop (suc i) (chosen q) = ap (λ (n : ℕ). drop n (chosen q)) (sym (e .0)) ∙ split in
-              (0, omega arith, whole, (λ m. headOr 0 (e .1 m ++ chosen q)) ∙ ap (headOr 0) whole)
+              (0, omega arith, sym (chosen-is q) ∙ whole, (λ m. headOr 0 (e .1 m ++ chosen q)) ∙ ap (headOr 0) whole)
 
       one-target : targets (x .board .core) ≡ turn ∷ []
       one-target =
           sequential-targets _ (q .mask) v (t .cursor) (t .playing .ready) mode
+          ∙ ap (λ (ks : List ℕ). headOr 0 (activeFrom (t .cursor) (q .mask) ++ ks) ∷ []) (sym (chosen-is q))
           ∙ ap (λ (y : ℕ). y ∷ []) (line-from .3)
 
       enough-left : length (targets (x .board .core)) ≤ length (drop (j * c + i) vs)
@@ -216,7 +217,7 @@ module _ (q : Cut) (o : Ordered q) (v : ℕ) (s : State) where
         (record {
           cursor = 0;
           playing = subst (λ (n : ℕ). Playing (q .mask) v (drop (n + 0) vs) 0 s) (sym z) start;
-          line = inl refl;
+          line = inl (sym (chosen-is q));
         })
     first-turn (suc j) l =
         let t = turns j l (first-turn j (omega arith)) c (omega arith) in

@@ -37,11 +37,12 @@ eofOnLast (v ∷ w ∷ vs) = v ∷ eofOnLast (w ∷ vs)
 
 -- ---- The chosen numbers
 
+-- 02: "group after group, with the number of channels in a group"
 unfoldable pub sample : Cut → ℕ → ℕ → ℕ
 sample q j k = getD (q .recording) (j * q .channels + k) 0
 
 -- "in ascending channels"
-abbrev pub chosen : Cut → List ℕ
+unfoldable pub chosen : Cut → List ℕ
 chosen q = activeFrom 0 (q .mask)
 
 -- 02: "group after group"; those of the channels ks, of n groups from the group j on

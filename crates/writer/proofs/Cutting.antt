@@ -6,6 +6,7 @@ use native.Mathlib.Nat.{suc-mul, mul-le-mul-right, le-of-suc-le-suc, lt-of-not-l
 use native.Mathlib.Omega.{arith}
 use lib.ListN.{length, getD, length-append, length-map}
 use Rattle.rules.specs.declared.Event.the-variants.{Write as write}
+use Rattle.rules.specs.Bits.{activeFrom}
 use Rattle.laws.specs.Moved.{Among}
 use Rattle.laws.proofs.Actives.{active-to}
 use Rattle.files.specs.Bytes.{bytesOf, recordsOf, fileOf}
@@ -20,12 +21,16 @@ use Rattle.writer.proofs.Marks.{loads-long, loads-append, loads-over, l
 
 -- ---- The numbers from a group on
 
+-- the channels, as the loop over a group has them
+abbrev groupChannels : Cut → List ℕ
+groupChannels q = activeFrom 0 (q .mask)
+
 abbrev numbersOn : Cut → ℕ → List ℕ
 numbersOn q j = numbersFrom q (chosen q) j (suc (q .last) - j)
 
 module _ (q : Cut) (j : ℕ) where
-  numbers-next : j ≤ q .last → groupAt (q .recording) (j * q .channels) (chosen q) ++ numbersOn q (suc j) ≡ numbersOn q j
-  unfolding numbersFrom sample
+  numbers-next : j ≤ q .last → groupAt (q .recording) (j * q .channels) (groupChannels q) ++ numbersOn q (suc j) ≡ numbersOn q j
+  unfolding numbersFrom sample chosen
   numbers-next l =
       let e : suc (q .last) - suc j ≡ q .last - j = omega arith in
       let f : suc (q .last - j) ≡ suc (q .last) - j = omega arith in
@@ -98,13 +103,13 @@ module _ {q : Cut} {n place : ℕ} (g : GoodCut q n place) {end : ℕ} {out₀ :
 
   -- its numbers, and those after it
   abbrev these : List ℕ
-  these = groupAt (q .recording) base (chosen q)
+  these = groupAt (q .recording) base (groupChannels q)
 
   abbrev others : List ℕ
   others = numbersOn q (suc (s .group))
 
   both : these ++ others ≡ numbersOn q (s .group)
-  both = ap (λ (b : ℕ). groupAt (q .recording) b (chosen q) ++ others) (s .start) ∙ numbers-next q (s .group) left
+  both = ap (λ (b : ℕ). groupAt (q .recording) b (groupChannels q) ++ others) (s .start) ∙ numbers-next q (s .group) left
 
   ends-later : to + 8 * length these + 8 * length others ≡ end
   ends-later = omega (arith, s .ends, ap length both, length-append these others)
@@ -113,11 +118,11 @@ module _ {q : Cut} {n place : ℕ} (g : GoodCut q n place) {end : ℕ} {out₀ :
   group-within =
       omega (arith, s .start, suc-mul (s .group) (q .channels), groups-within g (suc (s .group)) (omega (arith, left, g .choice .within)))
 
-  pub group-inside : (k : ℕ) → Among k (chosen q) → base + k < length (q .recording)
+  pub group-inside : (k : ℕ) → Among k (groupChannels q) → base + k < length (q .recording)
   group-inside k h = omega (arith, group-within, g .choice .inside k ((active-to 20 0 (q .mask) k h) .0))
 
-  pub group-fits : to + 8 * length (chosen q) ≤ length out
-  group-fits = omega (arith, s .room, ends-later, length-map (chosen q) (λ (k : ℕ). getD (q .recording) (base + k) 0))
+  pub group-fits : to + 8 * length (groupChannels q) ≤ length out
+  group-fits = omega (arith, s .room, ends-later, length-map (groupChannels q) (λ (k : ℕ). getD (q .recording) (base + k) 0))
 
   pub cutting-next : (out′ : List ℕ) (to′ : ℕ) → Piece out to (loadRecords end to these) out′ to′
       → Cutting q end out₀ to₀ out′ to′ (base + q .channels)
