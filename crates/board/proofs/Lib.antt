@@ -1,7 +1,4 @@
 -- What the functions' proofs cite; each file opens with what it shows.
-pub mod Choices
-pub mod Conditions
-pub mod Numbers
 pub mod Losing
 pub mod Planning
 pub mod Standing

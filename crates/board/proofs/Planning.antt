@@ -12,8 +12,9 @@ use Rattle.rules.specs.Refusals.{refusal}
 use Rattle.rules.specs.Laws.Refusals.{Ordinary}
 use Rattle.rules.specs.Step.{played}
 use Rattle.rules.proofs.Refusals.{refusal-stands}
-use Rattle.record.specs.Promises.{DepthTold}
-use Rattle.record.proofs.Told.{depth-told}
+use Rattle.rules.specs.Told.{Told}
+use Rattle.record.specs.Capped.{cappedBoard}
+use Rattle.record.proofs.Depths.{depth-told}
 use Rattle.moves.specs.declared.Played.{Played}
 use Rattle.channels.specs.Serving.{Sober}
 use Rattle.moves.specs.Does.{Does, listed}
@@ -21,17 +22,17 @@ use Rattle.plans.specs.declared.Act.{Act}
 use Rattle.plans.specs.declared.Act.the-variants.{Nothing, Empties, Clocks, Loads}
 use Rattle.plans.specs.declared.Plan.{Plan}
 use Rattle.plans.specs.Parts.{carried, Moves}
-use Rattle.plans.specs.Promises.{Planned}
+use Rattle.plans.specs.Plan.{planned}
 use Rattle.plans.proofs.Laws.{plan-plays, plan-ordinary, plan-within}
 use Rattle.board.specs.Types.{Core, Ring, Event}
 
 -- ---- A plan that moves a value or stores one
 
-pub moves-ordinary : {c : Core} {e : Event} {p : Plan} → Planned c e p → Moves (p .act) → Ordinary e
-moves-ordinary {c} {e} w k = plan-ordinary c e (rw (w .told) at k)
+pub moves-ordinary : (c : Core) (e : Event) {p : Plan} → Told (planned c e) p → Moves (p .act) → Ordinary e
+moves-ordinary c e w k = plan-ordinary c e (rw (w .told) at k)
 
-pub moves-sober : {c : Core} {e : Event} {p : Plan} → Planned c e p → Moves (p .act) → Sober c → Sober (p .core)
-moves-sober {c} {e} w k s =
+pub moves-sober : (c : Core) (e : Event) {p : Plan} → Told (planned c e) p → Moves (p .act) → Sober c → Sober (p .core)
+moves-sober c e w k s =
     let h = plan-within c e (rw (w .told) at k) in
     rw (w .told) (record { mask = rw (h .mask) (s .mask); cursor = le-trans (h .cursor) (s .cursor) })
 
@@ -47,7 +48,7 @@ any-depth Clocks c full d d′ ring m r m′ e h = subst (λ (x : ℕ). Does x (
 any-depth (Loads v) c full d d′ ring m r m′ e h = subst (λ (x : ℕ). Does x (carried (Loads v) c (listed x ring m) full) ring m r m′) (e tt) h
 
 pub planned-does : (s : State) (e : Event) (p : Plan) (d : ℕ) (r : Played) (m′ : List ℕ) → refusal s e ≡ 0
-    → Planned (s .board .core) e p → DepthTold (s .board) d
+    → Told (planned (s .board .core) e) p → Told (depth (cappedBoard (s .board))) d
     → Does d (carried (p .act) (p .core) (listed d (s .board .ring) (s .memory)) (isFull (s .board .size) (s .board .ring .count))) (s .board .ring) (s .memory) r m′
     → Does (depth (s .board)) (played s e) (s .board .ring) (s .memory) r m′
 unfolding stored
@@ -55,4 +56,4 @@ planned-does s e p d r m′ z w t h =
     let full = isFull (s .board .size) (s .board .ring .count) in
     subst (λ (q : Play). Does (depth (s .board)) q (s .board .ring) (s .memory) r m′) (sym (rw (w .told) (plan-plays (s .board .core) e (stored s) full)))
     (any-depth (p .act) (p .core) full d (depth (s .board)) (s .board .ring) (s .memory) r m′
-    (λ k. depth-told (s .board) d t ((refusal-stands s e (moves-ordinary w k) z) .sound .fitted)) h)
+    (λ k. depth-told (s .board) d t ((refusal-stands s e (moves-ordinary (s .board .core) e w k) z) .sound .fitted)) h)

@@ -9,7 +9,6 @@ use Rattle.rules.proofs.Sizes.{channels-le}
 use Rattle.rules.proofs.Soundness.{sound-core}
 use Rattle.moves.specs.Ready.{Ready}
 use Rattle.channels.specs.Serving.{Sober}
-use Rattle.board.specs.Parts.{Sized}
 
 depth-small : (d : ℕ) → d ≤ 15 → depthOf d ≤ 262144
 unfolding depthOf
@@ -23,10 +22,6 @@ stands-ready s h =
       enough = h .enough;
       small = depth-small (s .board .size .fitted) (h .sound .fitted);
     }
-
-pub stands-sized : (s : State) → Stands s → Sized (s .board)
-stands-sized s h =
-    record { fitted = h .sound .fitted; count = le-trans (h .sound .count) (depth-small (s .board .size .fitted) (h .sound .fitted)) }
 
 pub stands-sober : (s : State) → Stands s → Sober (s .board .core)
 stands-sober s h =

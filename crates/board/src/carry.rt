@@ -9,7 +9,6 @@ ghost use Rattle.moves.specs.Does.{Does, listed};
 ghost use Rattle.moves.specs.Promises.{joined};
 ghost use Rattle.plans.specs.Parts.{carried, Moves};
 ghost use Rattle.board.specs.Parts.{lostBy};
-use crate::sizes::active_size;
 use channels::serve;
 use moves::Frame;
 use moves::Played;
@@ -22,6 +21,7 @@ use rules::Lost;
 use rules::Outputs;
 use rules::Ring;
 use rules::Size;
+use status::active_size;
 
 // 01: "FRAME OVERFLOW (D17) is set and the value lost; else if full, BUFFER OVERFLOW (D16)"
 pub(crate) fn lost_by(fate: u32, c: Core) -> Core

@@ -7,9 +7,6 @@ use rules::Board;
 use rules::Event;
 
 mod carry;
-mod interrupt;
-mod registers;
-mod sizes;
 mod steps;
 
 // What an event answers, and the record after it.

@@ -1,6 +1,6 @@
 // An event that is done, and one that is refused.
+ghost use Prim.Native.Nat.{_≤_};
 ghost use mathlib.Core.Path.{_≡_};
-ghost use Rattle.board.specs.Parts.{Sized};
 ghost use Rattle.board.specs.Promises.{Stepped};
 ghost use Rattle.rules.specs.Laws.Refusals.{Ordinary};
 ghost use Rattle.rules.specs.Refusals.{refusal};
@@ -10,13 +10,13 @@ ghost use Rattle.rules.specs.Step.{reading};
 ghost use Rattle.rules.specs.Record.{stateOf};
 use crate::Reply;
 use crate::carry::carry;
-use crate::interrupt::request_after;
-use crate::interrupt::request_held;
-use crate::interrupt::size_after;
-use crate::registers::read_at;
+use latches::request_after;
+use latches::request_held;
+use latches::size_after;
 use moves::Played;
 use plans::plan_of;
 use record::depth;
+use registers::read_at;
 use rules::Answer;
 use rules::Board;
 use rules::Event;
@@ -39,7 +39,7 @@ pub(crate) fn refused(n: u32, b: Board) -> Reply
 
 // 01: "register value (0 unless a read)"
 pub(crate) fn register(b: Board, e: Event) -> u32
-    requires { ⌜ (Ordinary e → Sized b) ⌝ }
+    requires { ⌜ (Ordinary e → b .size .fitted ≤ 15) ⌝ }
     ensures { λ r. ⌜ r ≡ reading b e ⌝ }
 {
     match e {

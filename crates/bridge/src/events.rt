@@ -1,24 +1,11 @@
 // The event that a row of six numbers says.
 ghost use mathlib.Core.Path.{_≡_};
 ghost use lib.ListN.{length};
-ghost use Rattle.files.specs.File.{signalOf, eventOf};
+ghost use Rattle.files.specs.File.{eventOf};
 ghost use Rattle.bridge.specs.Events.{eventAt};
+use kinds::signal_of;
 use rules::Event;
 use rules::Settings;
-use rules::Signal;
-
-fn signal_of(kind: u32) -> Signal
-    ensures { λ r. ⌜ r ≡ signalOf kind ⌝ }
-{
-    match kind {
-        4 => Signal::Tick,
-        5 => Signal::Outside,
-        6 => Signal::Trigger,
-        7 => Signal::Passed,
-        8 => Signal::Failed,
-        _ => Signal::Settled,
-    }
-}
 
 // Offset and value of an access stand where a power-up has its first two settings: the kind says which they are.
 fn event_of(kind: u32, offset: u32, value: u32, settings: Settings) -> Event

@@ -1,7 +1,7 @@
 // How a session file ends.
 use crate::print;
 use files::End;
-use session::fault_number;
+use kinds::fault_number;
 
 fn ended(end: End) {
     match end {

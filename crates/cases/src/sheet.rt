@@ -2,9 +2,9 @@
 use crate::board::within;
 use crate::desk::Desk;
 use crate::print;
+use kinds::row_of;
 use run::Ahead;
 use run::Cursor;
-use writer::row_of;
 
 // A row joins the slice; there is room for four.
 pub(crate) fn put(mut desk: Desk) -> Desk {

@@ -4,4 +4,3 @@ pub mod Single
 pub mod Moving
 pub mod Ranges
 pub mod Told
-pub mod Unique

@@ -1,3 +1,1 @@
 pub mod Serving
-pub mod Promises
-pub mod Unique

@@ -1,10 +1,12 @@
-// Which channels an accepted clock serves. Every call takes every input. What it promises is in specs/Promises.antt.
-ghost use Rattle.channels.specs.Promises.{Serves};
+// Which channels an accepted clock serves. Every call takes every input. It tells what specs/Serving.antt says
+// (`Told` of rules/specs/Told.antt).
+ghost use Rattle.rules.specs.Told.{Told};
+ghost use Rattle.channels.specs.Serving.{servingOf};
 use crate::sizes::to_move;
 use crate::targets::cursor_after;
 use crate::targets::served;
-use record::closed;
 use rules::Core;
+use status::closed;
 
 mod sizes;
 mod targets;
@@ -20,7 +22,7 @@ pub struct Serving {
 
 // Which channels an accepted clock serves, count values being stored. Where the core's mask or cursor is out of range it serves none.
 pub fn serve(c: Core, count: u32) -> Serving
-    ensures { λ r. ⌜ Serves c count r ⌝ }
+    ensures { λ r. ⌜ Told (servingOf c count) r ⌝ }
 {
     let n = to_move(c, count);
     if n == 0 {

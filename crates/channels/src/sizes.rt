@@ -4,12 +4,13 @@ ghost use Rattle.rules.specs.Clocks.{idle};
 ghost use Rattle.channels.specs.Serving.{toMove};
 use crate::targets::group_size;
 use rules::Core;
+use status::burst_ready;
 
 // 01: "An accepted clock moves nothing if the mask is 0, or if bursts are enabled with none in progress."
 pub(crate) fn idle(c: Core) -> bool
     ensures { λ r. ⌜ r ≡ idle c ⌝ }
 {
-    (c.outputs.mask == 0) | (c.control.bursts & !c.burst.running)
+    (c.outputs.mask == 0) | burst_ready(c)
 }
 
 // 01: "sequential mode moves one value, if any"; "only if that many are stored". 0 where the mask or the cursor is out of range.

@@ -6,7 +6,7 @@ use mathlib.Core.Bool.{Bool, true, false, cond, false≢true}
 use mathlib.Core.List.{List}
 use native.Mathlib.Nat.{le-refl, min-eq-right}
 use native.Mathlib.Omega.{arith}
-use borrow.Author.Tests.{eqb-true, ne-eqb, leb-true, ltb-true, not-true, lt-leb}
+use borrow.Author.Tests.{eqb-true, ne-eqb, leb-true, leb-false, not-true, lt-leb}
 use lib.Dec.{eqb, leb}
 use Rattle.rules.specs.declared.Signal.the-variants.{Tick, Outside, Trigger, Passed, Failed, Settled}
 use Rattle.rules.specs.declared.Event.{Event}
@@ -140,7 +140,7 @@ takes-says b d h =
       free = not-true _ (h2 .0);
       unclosed = not-true _ (h3 .0);
       whole = leb-true _ _ (h4 .0);
-      below = ltb-true _ _ (h5 .0);
+      below = leb-false _ _ (not-true _ (h5 .0));
     }
 
 -- the active size of a buffer that is not cut is the depth

@@ -12,7 +12,7 @@ use Prim.Native.Nat.{ℕ}
 use mathlib.Core.Path.{_≡_}
 use mathlib.Core.Bool.{Bool, true, not, cond, _&&_}
 use mathlib.Core.List.{List, [], _∷_}
-use lib.Dec.{eqb, leb, ltb}
+use lib.Dec.{eqb, leb}
 use Rattle.rules.specs.declared.Signal.{Signal}
 use Rattle.rules.specs.declared.Signal.the-variants.{Tick, Outside, Trigger, Passed, Failed, Settled}
 use Rattle.rules.specs.declared.Event.{Event}
@@ -63,7 +63,7 @@ unfoldable pub takes : Board → ℕ → Bool
 takes b d =
     all
     (eqb (b .core .control .selection) 0 ∷ not (b .core .calibration .running) ∷ not (closed (b .core))
-    ∷ leb (b .size .fitted) (b .size .code) ∷ ltb (b .ring .count) d ∷ [])
+    ∷ leb (b .size .fitted) (b .size .code) ∷ not (leb d (b .ring .count)) ∷ [])
 
 unfoldable pub ticks : Core → Bool
 ticks c = all (eqb (c .control .selection) 0 ∷ tickAccepted c ∷ [])

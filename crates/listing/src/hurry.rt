@@ -4,8 +4,9 @@ ghost use Prim.Native.Nat.{_+_, _≤_};
 ghost use mathlib.Core.Path.{_≡_};
 ghost use mathlib.Core.Bool.{true};
 ghost use lib.ListN.{length};
-ghost use Rattle.rules.specs.Record.{stateOf};
-ghost use Rattle.record.specs.Promises.{DepthTold};
+ghost use Rattle.rules.specs.Record.{depth, stateOf};
+ghost use Rattle.rules.specs.Told.{Told};
+ghost use Rattle.record.specs.Capped.{cappedBoard};
 ghost use Rattle.listing.specs.Shortcuts.{commonOf, quick, boardAs, InRun};
 ghost use Rattle.listing.specs.Desk.{boardNow, desk, Fair, Hastens, Hurries};
 use crate::parts::whole;
@@ -78,7 +79,7 @@ pub(crate) fn hasten(
     memory: &mut [u32],
     out: &mut [u8],
 ) -> Hastened
-    requires { ⌜ DepthTold rest d × (quick (boardAs rest core ring) d ((commonOf n) .kind) ≡ true) × InRun (stateOf (boardNow rest core (now levels) ring) (now memory)) × (at + 64 ≤ length (now out)) ⌝ }
+    requires { ⌜ Told (depth (cappedBoard rest)) d × (quick (boardAs rest core ring) d ((commonOf n) .kind) ≡ true) × InRun (stateOf (boardNow rest core (now levels) ring) (now memory)) × (at + 64 ≤ length (now out)) ⌝ }
     ensures { λ r. ⌜ Hastens rest core ring n at number (now (levels .entry)) (now (memory .entry)) (now (out .entry)) r (now (levels .exit)) (now (memory .exit)) (now (out .exit)) ⌝ }
 {
     let x = common_of(n);

@@ -3,16 +3,16 @@
 ghost use mathlib.Core.Path.{_≡_};
 ghost use mathlib.Core.Bool.{true};
 ghost use Rattle.rules.specs.declared.Event.the-variants.{Write};
-ghost use Rattle.record.specs.Promises.{DepthTold};
+ghost use Rattle.rules.specs.Told.{Told};
+ghost use Rattle.record.specs.Capped.{cappedBoard};
 ghost use Rattle.board.specs.Promises.{Stepped};
 ghost use Rattle.listing.specs.Shortcuts.{commonEvent, nothing, commonSignal, commonOf, takes, ticks, quick, boardWith, replyOf, InRun};
-ghost use Rattle.rules.specs.Record.{stateOf};
+ghost use Rattle.rules.specs.Record.{depth, stateOf};
 ghost use Rattle.run.specs.declared.Ahead.the-variants.{Found};
 use channels::serve;
 use moves::Frame;
 use moves::deal;
 use moves::load;
-use record::closed;
 use rules::Board;
 use rules::Burst;
 use rules::Core;
@@ -22,6 +22,9 @@ use rules::Ring;
 use rules::Signal;
 use run::Ahead;
 use run::Cursor;
+use status::closed;
+use status::is_full;
+use status::tick_accepted;
 
 // What stands ahead, if it is a load or a tick, as numbers: 1 a write of the value to 18h, 2 a tick, and the cursor after it; 0 anything
 // else.
@@ -102,14 +105,13 @@ pub(crate) fn takes(b: Board, d: u32) -> bool
     let c = b.core;
     (c.control.selection == 0)
         & (!c.calibration.running
-            & (!closed(c) & ((b.size.fitted <= b.size.code) & ((b.ring.count < d) & true))))
+            & (!closed(c) & ((b.size.fitted <= b.size.code) & (!is_full(d, b.ring.count) & true))))
 }
 
 pub(crate) fn ticks(c: Core) -> bool
     ensures { λ r. ⌜ r ≡ ticks c ⌝ }
 {
-    let accepted = c.mode.enabled & (!c.mode.external | c.clock.alt) & !c.calibration.running;
-    (c.control.selection == 0) & (accepted & true)
+    (c.control.selection == 0) & (tick_accepted(c) & true)
 }
 
 // Whether the event of a kind can be done at once.
@@ -132,7 +134,7 @@ pub(crate) fn at_once(
     levels: &mut [u16; 20],
     memory: &mut [u32],
 ) -> Change
-    requires { ⌜ DepthTold b d × (quick b d kind ≡ true) × InRun (stateOf (boardWith b (now levels)) (now memory)) ⌝ }
+    requires { ⌜ Told (depth (cappedBoard b)) d × (quick b d kind ≡ true) × InRun (stateOf (boardWith b (now levels)) (now memory)) ⌝ }
     ensures { λ r. ⌜ Stepped (boardWith b (now (levels .entry))) (now (memory .entry)) (commonEvent kind value) (replyOf b r (now (levels .exit))) (now (memory .exit)) ⌝ }
 {
     let core = b.core;

@@ -5,8 +5,8 @@ ghost use Rattle.files.specs.File.{verdict};
 ghost use Rattle.files.specs.Pieces.{Piece};
 ghost use Rattle.text.specs.Listing.{ending};
 use files::End;
+use kinds::fault_number;
 use lines::put_tail;
-use session::fault_number;
 
 // The place of a refusal is printed as a number of 32 bits.
 pub(crate) fn put_end(out: &mut [u8], at: usize, end: End, levels: [u16; 20]) -> usize

@@ -17,7 +17,8 @@ use Rattle.rules.proofs.Steps.{length-values}
 use Rattle.moves.specs.declared.Frame.{Frame}
 use Rattle.channels.specs.declared.Serving.{Serving}
 use Rattle.channels.specs.Serving.{Sober, toMove, servedBy}
-use Rattle.channels.specs.Promises.{Serves}
+use Rattle.rules.specs.Told.{Told}
+use Rattle.channels.specs.Serving.{servingOf}
 use Rattle.channels.proofs.Moving.{served-targets}
 use Rattle.channels.proofs.Ranges.{move-moving}
 use Rattle.channels.proofs.Told.{again-closed, moved-told, mask-none, mask-some, cursor-none, cursor-some}
@@ -59,7 +60,7 @@ dealt-none binary again d x = refl
 -- ---- The clock
 
 module _ (c : Core) (ring : Ring) (d : ℕ) (ls m : List ℕ) (ready : Ready d ring m) (sober : Sober c) (s : Serving) (r : Frame) (ls′ m′ : List ℕ)
-    (p : Serves c (ring .count) s) (q : Deals (s .mask) (frameOf c ring) (c .control .binary) (s .again) d ls m r ls′ m′) where
+    (p : Told (servingOf c (ring .count)) s) (q : Deals (s .mask) (frameOf c ring) (c .control .binary) (s .again) d ls m r ls′ m′) where
   abbrev buf : List ℕ
   buf = listed d ring m
 

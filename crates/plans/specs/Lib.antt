@@ -1,5 +1,3 @@
 pub mod Parts
 pub mod Plan
-pub mod Promises
-pub mod Unique
 pub mod Laws

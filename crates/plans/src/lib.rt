@@ -1,6 +1,7 @@
 // What an event is to do, before any value moves: the core that it leaves, and what then comes of the stored values.
-// Every call takes every input. What `plan_of` promises is in specs/Promises.antt, and the plan itself in specs/Plan.antt.
-ghost use Rattle.plans.specs.Promises.{Planned};
+// Every call takes every input. `plan_of` tells the plan that specs/Plan.antt says (`Told` of rules/specs/Told.antt).
+ghost use Rattle.rules.specs.Told.{Told};
+ghost use Rattle.plans.specs.Plan.{planned};
 use crate::signals::on_signal;
 use crate::writes::initial;
 use crate::writes::on_write;
@@ -28,7 +29,7 @@ pub struct Plan {
 
 // The plan of an event that is not refused.
 pub fn plan_of(c: Core, e: Event) -> Plan
-    ensures { λ r. ⌜ Planned c e r ⌝ }
+    ensures { λ r. ⌜ Told (planned c e) r ⌝ }
 {
     match e {
         Event::PowerUp(x) => Plan {

@@ -8,11 +8,11 @@ use crate::Act;
 use crate::Plan;
 use crate::choose::pick_burst;
 use crate::states::clock_accepted;
-use crate::states::tick_accepted;
 use crate::states::trigger_accepted;
 use rules::Burst;
 use rules::Core;
 use rules::Signal;
+use status::tick_accepted;
 
 // 01: "Clocks and triggers that are not accepted answer 0 and change nothing."
 pub(crate) fn clocks_if(accepted: bool) -> Act

@@ -1,21 +1,13 @@
-// What is accepted, as tests of the core.
+// Which outside clocks and triggers are accepted.
 ghost use mathlib.Core.Path.{_≡_};
-ghost use Rattle.rules.specs.Clocks.{tickAccepted, clockAccepted, triggerAccepted};
+ghost use Rattle.rules.specs.Clocks.{clockAccepted, triggerAccepted};
 use rules::Core;
-
-pub(crate) fn tick_accepted(c: Core) -> bool
-    ensures { λ r. ⌜ r ≡ tickAccepted c ⌝ }
-{
-    c.mode.enabled & (!c.mode.external | c.clock.alt) & !c.calibration.running
-}
+use status::clock_ready;
 
 pub(crate) fn clock_accepted(c: Core) -> bool
     ensures { λ r. ⌜ r ≡ clockAccepted c ⌝ }
 {
-    c.mode.enabled
-        & c.mode.external
-        & !c.clock.alt
-        & (c.mode.external & !c.clock.settling & !c.calibration.running)
+    c.mode.enabled & c.mode.external & !c.clock.alt & clock_ready(c)
 }
 
 pub(crate) fn trigger_accepted(c: Core) -> bool

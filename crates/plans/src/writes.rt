@@ -15,11 +15,13 @@ use rules::Calibration;
 use rules::Clock;
 use rules::Control;
 use rules::Core;
+use rules::Event;
 use rules::Load;
 use rules::Lost;
 use rules::Mode;
 use rules::Options;
 use rules::Outputs;
+use status::initialises;
 
 // 01: "Initialise: BCR 00000810h, mask of all fitted channels, divisor 0064h, .."
 pub(crate) fn initial(o: Options) -> Core
@@ -297,7 +299,10 @@ pub(crate) fn on_write(c: Core, o: u32, v: u32) -> Plan
             act: Act::Loads(v),
         };
     }
-    if (o == 0) & (v / 32768 % 2 == 1) {
+    if initialises(Event::Write {
+        offset: o,
+        value: v,
+    }) {
         let options = c.options;
         return Plan {
             core: initial(options),

@@ -1,8 +1,8 @@
 // The rate question: the 512 reference frequencies in a table, and the figures of a board record.
 ghost use Prim.Native.Nat.{_≤_, _<_};
 ghost use mathlib.Core.Path.{_≡_};
-ghost use Rattle.rules.specs.Rates.{referenceOf, wholeReference, sampleRate};
-ghost use Rattle.rates.specs.Promises.{RatesTold};
+ghost use Rattle.rules.specs.Rates.{referenceOf, wholeReference, sampleRate, rates};
+ghost use Rattle.rules.specs.Told.{Told};
 use rules::Board;
 use rules::Clock;
 use rules::Figures;
@@ -567,7 +567,7 @@ fn refused(n: u32) -> Figures
 
 // The rate figures of a board record, or the refusal 3, 9 or 8.
 pub fn rate(b: Board) -> Figures
-    ensures { λ r. ⌜ RatesTold b r ⌝ }
+    ensures { λ r. ⌜ Told (rates b) r ⌝ }
 {
     if !is_sound(b) {
         return refused(3);

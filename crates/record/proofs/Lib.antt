@@ -1,4 +1,4 @@
 -- What the functions' proofs cite; each file opens with what it shows.
 pub mod Shifts
-pub mod Told
-pub mod Unique
+pub mod Depths
+pub mod Limits

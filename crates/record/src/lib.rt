@@ -1,9 +1,9 @@
-// A board record by itself: the unpowered one, its depth, the mask of its kit, and whether its buffer is closed.
-// Every call takes every input. What each promises is in specs/Promises.antt.
-ghost use Prim.Native.Nat.{_≤_};
-ghost use mathlib.Core.Path.{_≡_};
-ghost use Rattle.rules.specs.Record.{depthOf};
-ghost use Rattle.record.specs.Promises.{Unpowered, DepthTold, LimitTold, ClosedTold};
+// A board record by itself: which settings are in range, the unpowered record, its depth, and the mask of its kit.
+// Every call takes every input, and tells what a rule says (`Told` of rules/specs/Told.antt).
+ghost use Prim.Native.Nat.{_^_, min};
+ghost use Rattle.rules.specs.Record.{fittedInRange, codeInRange, firmwareInRange, depthOf, depth, channels, unpowered};
+ghost use Rattle.rules.specs.Told.{Told};
+ghost use Rattle.record.specs.Capped.{cappedBoard};
 use rules::Board;
 use rules::Burst;
 use rules::Calibration;
@@ -20,7 +20,7 @@ use rules::Size;
 
 // The record that a run starts from. 01: "The unpowered record is all zero."
 pub fn unpowered() -> Board
-    ensures { λ r. ⌜ Unpowered r ⌝ }
+    ensures { λ r. ⌜ Told unpowered r ⌝ }
 {
     let core = Core {
         powered: false,
@@ -83,28 +83,45 @@ pub fn unpowered() -> Board
     }
 }
 
-// 01: "The depth is 8·2^d values."
-fn depth_of(d: u32) -> u32
-    requires { ⌜ d ≤ 15 ⌝ }
-    ensures { λ r. ⌜ (r ≡ depthOf d) × (8 ≤ r) × (r ≤ 262144) ⌝ }
+// 01: "a fitted code d (0 to 15), range, filter and kit codes (0 to 2) and a firmware number (0 to 4095)"
+pub fn fitted_in_range(d: u32) -> bool
+    ensures { λ r. ⌜ Told (fittedInRange d) r ⌝ }
 {
-    8u32 << d
+    d <= 15
 }
 
-// The depth of a record, 0 where its fitted code is out of range.
-pub fn depth(b: Board) -> u32
-    ensures { λ r. ⌜ DepthTold b r ⌝ }
+pub fn code_in_range(n: u32) -> bool
+    ensures { λ r. ⌜ Told (codeInRange n) r ⌝ }
 {
-    let d = b.size.fitted;
-    if d <= 15 {
-        return depth_of(d);
+    n <= 2
+}
+
+pub fn firmware_in_range(n: u32) -> bool
+    ensures { λ r. ⌜ Told (firmwareInRange n) r ⌝ }
+{
+    n <= 4095
+}
+
+// 01: "The depth is 8·2^d values." A code that is out of range counts as 15.
+pub fn depth_of(d: u32) -> u32
+    ensures { λ r. ⌜ Told (depthOf (min d 15)) r ⌝ }
+{
+    if fitted_in_range(d) {
+        return 8u32 << d;
     }
-    0
+    262144
+}
+
+// The depth of a record.
+pub fn depth(b: Board) -> u32
+    ensures { λ r. ⌜ Told (depth (cappedBoard b)) r ⌝ }
+{
+    depth_of(b.size.fitted)
 }
 
 // One more than the highest mask of a kit's channels.
 pub fn mask_limit(kit: u32) -> u32
-    ensures { λ r. ⌜ LimitTold kit r ⌝ }
+    ensures { λ r. ⌜ Told (2 ^ channels kit) r ⌝ }
 {
     if kit == 0 {
         return 64;
@@ -113,11 +130,4 @@ pub fn mask_limit(kit: u32) -> u32
         return 4096;
     }
     1048576
-}
-
-// 01: "closed = circular and not opened"
-pub fn closed(c: Core) -> bool
-    ensures { λ r. ⌜ ClosedTold c r ⌝ }
-{
-    c.mode.circular & !c.load.opened
 }

@@ -12,7 +12,11 @@ ghost use Rattle.rules.specs.declared.Board.{Board};
 ghost use Rattle.rules.specs.declared.Event.the-variants.{PowerUp as powerUp};
 ghost use Rattle.rules.specs.Own.{ownWrite, ownNumber};
 ghost use Rattle.rules.specs.Laws.Refusals.{Ordinary};
+use record::code_in_range;
 use record::depth;
+use record::depth_of;
+use record::firmware_in_range;
+use record::fitted_in_range;
 use rules::Board;
 use rules::Core;
 use rules::Event;
@@ -24,19 +28,19 @@ use soundness::is_sound;
 pub(crate) fn setting_refusal(x: Settings) -> u32
     ensures { λ r. ⌜ r ≡ settingRefusal x ⌝ }
 {
-    if x.fitted > 15 {
+    if !fitted_in_range(x.fitted) {
         return 1;
     }
-    if x.range > 2 {
+    if !code_in_range(x.range) {
         return 14;
     }
-    if x.filter > 2 {
+    if !code_in_range(x.filter) {
         return 15;
     }
-    if x.kit > 2 {
+    if !code_in_range(x.kit) {
         return 16;
     }
-    if x.firmware > 4095 {
+    if !firmware_in_range(x.firmware) {
         return 17;
     }
     0
@@ -74,7 +78,7 @@ pub(crate) fn power_up_refusal(x: Settings, len: usize) -> u32
     if n != 0 {
         return n;
     }
-    if len < (8u32 << x.fitted) as usize {
+    if len < depth_of(x.fitted) as usize {
         return 2;
     }
     0

@@ -33,7 +33,19 @@ pub cond-apply {ℓ} : {A : Type ℓ} (f : Bool → A) (t : Bool) → cond t (f 
 cond-apply f true = refl
 cond-apply f false = refl
 
+pub cond-same {ℓ} : {A : Type ℓ} (t : Bool) (x : A) → cond t x x ≡ x
+cond-same true x = refl
+cond-same false x = refl
+
 -- ---- && and ||
+
+pub and-cond : (x y : Bool) → x && y ≡ cond x y false
+and-cond true y = refl
+and-cond false y = refl
+
+pub or-cond : (x y : Bool) → x || y ≡ cond x true y
+or-cond true y = refl
+or-cond false y = refl
 
 pub and-both : (x y : Bool) → x && y ≡ true → (x ≡ true) × (y ≡ true)
 and-both true y h = (refl, h)

@@ -19,3 +19,4 @@ pub mod Bench
 pub mod Examples
 pub mod Laws
 pub mod Own
+pub mod Told

@@ -1,7 +1,8 @@
 // The way through a session file. `next` tells what stands at a cursor, and every loop over a session goes from event to event by it;
 // `advance` is `next` and `step`, one record played; `run` is the plain loop over `advance`. A loop that has to see the event, as that of
 // crate `listing`, uses `next` and `step`. The law of all these loops is in specs/Way.antt.
-ghost use Rattle.record.specs.Promises.{Unpowered};
+ghost use Rattle.rules.specs.Record.{unpowered};
+ghost use Rattle.rules.specs.Told.{Told};
 ghost use Rattle.run.specs.Promises.{Tells, Advances, Runs};
 use board::step;
 use files::End;
@@ -75,7 +76,7 @@ pub fn advance(s: &[u8], c: Cursor, b: Board, memory: &mut [u32]) -> Advanced
 
 // 01: "A run starts unpowered"
 fn start() -> Board
-    ensures { λ r. ⌜ Unpowered r ⌝ }
+    ensures { λ r. ⌜ Told unpowered r ⌝ }
 {
     unpowered()
 }

@@ -1,4 +1,3 @@
 -- What the functions' proofs cite.
 pub mod Opening
 pub mod Commonest
-pub mod Unique

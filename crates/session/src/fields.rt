@@ -2,10 +2,10 @@
 ghost use Prim.Native.Nat.{_+_, _<_, _≤_};
 ghost use mathlib.Core.Path.{_≡_};
 ghost use lib.ListN.{length};
-ghost use Rattle.files.specs.File.{byteAt, wordAt, quadAt, lengthOf, signalOf, settingsAt, eventAt};
+ghost use Rattle.files.specs.File.{byteAt, wordAt, quadAt, lengthOf, settingsAt, eventAt};
+use kinds::signal_of;
 use rules::Event;
 use rules::Settings;
-use rules::Signal;
 
 pub(crate) fn wide(b: u8) -> u32
     ensures { λ r. ⌜ (r ≡ b) × (r < 256) ⌝ }
@@ -32,19 +32,6 @@ pub(crate) fn quad_at(s: &[u8], at: usize) -> u32
     ensures { λ r. ⌜ r ≡ quadAt (now (s .entry)) at ⌝ }
 {
     65536 * word_at(s, at) + word_at(s, at + 2)
-}
-
-pub(crate) fn signal_of(kind: u32) -> Signal
-    ensures { λ r. ⌜ r ≡ signalOf kind ⌝ }
-{
-    match kind {
-        4 => Signal::Tick,
-        5 => Signal::Outside,
-        6 => Signal::Trigger,
-        7 => Signal::Passed,
-        8 => Signal::Failed,
-        _ => Signal::Settled,
-    }
 }
 
 pub(crate) fn settings_at(s: &[u8], at: usize) -> Settings

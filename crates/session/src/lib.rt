@@ -1,8 +1,8 @@
-// Session files: the record at a place of the lent file bytes, how long a record of a kind is, and a fault's number. Every call takes
-// every input.
+// Session files: the record at a place of the lent file bytes. Every call takes every input, and tells what a rule says (`Told` of
+// rules/specs/Told.antt).
 ghost use mathlib.Core.Path.{_≡_};
+ghost use Rattle.rules.specs.Told.{Told};
 ghost use Rattle.files.specs.File.{itemAt};
-ghost use Rattle.session.specs.Promises.{LengthTold, FaultTold, ItemTold};
 use crate::common::ahead;
 use crate::common::load_stands;
 use crate::common::tick_stands;
@@ -20,31 +20,6 @@ mod common;
 mod fields;
 mod records;
 
-// 01: "Kinds and lengths": how long a record of a kind is, 0 where there is no such kind.
-pub fn length_of(kind: u32) -> u32
-    ensures { λ r. ⌜ LengthTold kind r ⌝ }
-{
-    match kind {
-        1 => 7,
-        2 => 6,
-        3 => 2,
-        4..=9 => 1,
-        _ => 0,
-    }
-}
-
-// 01's number of what is wrong with a file.
-pub fn fault_number(why: Fault) -> u32
-    ensures { λ r. ⌜ FaultTold why r ⌝ }
-{
-    match why {
-        Fault::Version => 10,
-        Fault::Cut => 11,
-        Fault::Length => 12,
-        Fault::Kind => 13,
-    }
-}
-
 // Any record, its length and its kind tested in 01's order.
 pub(crate) fn any_at(s: &[u8], at: usize) -> Item
     ensures { λ r. ⌜ r ≡ itemAt (now (s .entry)) at ⌝ }
@@ -58,7 +33,7 @@ pub(crate) fn any_at(s: &[u8], at: usize) -> Item
 // The record at a place of a session file; place 0 is the start of the file, before its version byte. A tick or a write to 18h, as most
 // records of a session are, is told by its bytes alone, in fewer steps.
 pub fn item_at(s: &[u8], at: usize) -> Item
-    ensures { λ r. ⌜ ItemTold (now (s .entry)) at r ⌝ }
+    ensures { λ r. ⌜ Told (itemAt (now (s .entry)) at) r ⌝ }
 {
     let n = ahead(s, at);
     if tick_stands(s, at, n) {

@@ -8,10 +8,10 @@ ghost use Rattle.files.specs.File.{byteAt, recordAt};
 use crate::fields::byte_at;
 use crate::fields::event_at;
 use crate::fields::word_at;
-use crate::length_of;
 use files::End;
 use files::Fault;
 use files::Item;
+use kinds::length_of;
 
 pub(crate) fn refused(why: Fault, at: usize) -> Item
     ensures { λ r. ⌜ r ≡ Over (Refused why at) ⌝ }

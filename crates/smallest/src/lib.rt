@@ -6,7 +6,7 @@ ghost use Rattle.smallest.specs.Promises.{SizeNamed};
 use crate::replay::file_end;
 use crate::replay::lowest_code;
 use files::End;
-use session::fault_number;
+use kinds::fault_number;
 
 mod coded;
 mod replay;

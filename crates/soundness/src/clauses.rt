@@ -1,9 +1,11 @@
 // The clauses of soundness.
+ghost use Prim.Native.Nat.{min};
 ghost use mathlib.Core.Path.{_≡_};
-ghost use mathlib.Core.Bool.{cond};
-ghost use lib.Dec.{leb};
 ghost use Rattle.rules.specs.Bits.{onlyIf};
 ghost use Rattle.rules.specs.Record.{depthOf, optionsInRange, soundCore, soundRing};
+use record::code_in_range;
+use record::firmware_in_range;
+use record::fitted_in_range;
 use record::mask_limit;
 use rules::Core;
 use rules::Options;
@@ -24,7 +26,9 @@ pub(crate) fn only_if(a: bool, b: bool) -> bool
 pub(crate) fn options_in_range(o: Options) -> bool
     ensures { λ r. ⌜ r ≡ optionsInRange o ⌝ }
 {
-    (o.range <= 2) & ((o.filter <= 2) & ((o.kit <= 2) & ((o.firmware <= 4095) & true)))
+    code_in_range(o.range)
+        & (code_in_range(o.filter)
+            & (code_in_range(o.kit) & (firmware_in_range(o.firmware) & true)))
 }
 
 // 01's clauses of soundness that speak of the core.
@@ -55,8 +59,8 @@ pub(crate) fn sound_core(c: Core) -> bool
 
 // 01's clauses of soundness that speak of sizes and places, d being the depth where the fitted code is in range.
 pub(crate) fn sound_ring(s: Size, r: Ring, d: u32) -> bool
-    requires { ⌜ d ≡ cond (leb (s .fitted) 15) (depthOf (s .fitted)) 0 ⌝ }
+    requires { ⌜ d ≡ depthOf (min (s .fitted) 15) ⌝ }
     ensures { λ x. ⌜ x ≡ soundRing s r ⌝ }
 {
-    (s.fitted <= 15) & ((s.code <= 15) & ((r.first < d) & ((r.count <= d) & true)))
+    fitted_in_range(s.fitted) & ((s.code <= 15) & ((r.first < d) & ((r.count <= d) & true)))
 }

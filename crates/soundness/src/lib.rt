@@ -1,5 +1,6 @@
-// Which records are sound. Every call takes every input. What it promises is in specs/Promises.antt.
-ghost use Rattle.soundness.specs.Promises.{SoundTold};
+// Which records are sound. Every call takes every input. It tells what the rule says (`Told` of rules/specs/Told.antt).
+ghost use Rattle.rules.specs.Record.{sound};
+ghost use Rattle.rules.specs.Told.{Told};
 use crate::clauses::sound_core;
 use crate::clauses::sound_ring;
 use record::depth;
@@ -9,7 +10,7 @@ mod clauses;
 
 // Whether a record is sound.
 pub fn is_sound(b: Board) -> bool
-    ensures { λ r. ⌜ SoundTold b r ⌝ }
+    ensures { λ r. ⌜ Told (sound b) r ⌝ }
 {
     let core = b.core;
     let size = b.size;

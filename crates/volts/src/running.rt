@@ -8,9 +8,9 @@ ghost use Rattle.volts.specs.Watching.{AllEntered, RecordEntered, Watche
 use crate::channel::enter;
 use crate::levels::volts_of;
 use files::End;
+use kinds::fault_number;
 use rules::Board;
 use rules::Event;
-use session::fault_number;
 use voltage::Extremes;
 use voltage::Table;
 

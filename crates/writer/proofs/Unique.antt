@@ -1,9 +1,6 @@
 -- Each promise says what every part of the outcome is: two that do are equal.
 use Rattle.rules.proofs.Equal.{determined}
-use Rattle.writer.specs.Unique.{Row-unique, Writes-unique, Cuts-unique}
-
-pub row-unique : Row-unique
-row-unique e r r′ p q = determined (p .told) (q .told)
+use Rattle.writer.specs.Unique.{Writes-unique, Cuts-unique}
 
 pub writes-unique : Writes-unique
 writes-unique xs out place r r′ o o′ p q = (

@@ -1,16 +1,11 @@
--- The promises of the public functions: each fixes the answer, and those of the writer and the cutter every byte of the output.
+-- The promises of the public functions: each fixes the answer and every byte of the output.
 use Prim.Native.Nat.{ℕ}
 use mathlib.Core.Path.{_≡_}
 use mathlib.Core.List.{List}
 use lib.ListN.{length}
-use Rattle.rules.specs.declared.Event.{Event}
-use Rattle.files.specs.Row.{rowOf}
 use Rattle.files.specs.Writing.{writeRefusal, endPlace, outputAfter}
 use Rattle.cuts.specs.Cut.{Cut, cutRefusal, cutEnd, cutOutput}
 use Rattle.writer.specs.declared.Written.{Written}
-
-pub record RowTold (e : Event) (r : List ℕ) : Type 0 where
-  pub told : r ≡ rowOf e
 
 -- write(xs, out, place) = r, and out is out′ afterwards
 pub record Writes (xs out : List ℕ) (place : ℕ) (r : Written) (out′ : List ℕ) : Type 0 where

@@ -2,13 +2,9 @@
 use Prim.Native.Nat.{ℕ}
 use mathlib.Core.Path.{_≡_}
 use mathlib.Core.List.{List}
-use Rattle.rules.specs.declared.Event.{Event}
 use Rattle.cuts.specs.Cut.{Cut}
 use Rattle.writer.specs.declared.Written.{Written}
-use Rattle.writer.specs.Promises.{RowTold, Writes, Cuts}
-
-abbrev pub Row-unique : Type 0
-Row-unique = (e : Event) (r r′ : List ℕ) → RowTold e r → RowTold e r′ → r ≡ r′
+use Rattle.writer.specs.Promises.{Writes, Cuts}
 
 abbrev pub Writes-unique : Type 0
 Writes-unique =

@@ -7,7 +7,7 @@ ghost use Rattle.files.specs.Writing.{writeRefusal};
 ghost use Rattle.writer.specs.RowsFrom.{Judges, JudgesRow};
 use crate::rows::row_at;
 use crate::rows::row_refusal;
-use session::length_of;
+use kinds::length_of;
 
 // What is found of rows: by which number the first bad one is refused, 0 where none is; and then how many bytes their fields have. A row
 // has six numbers, and its fields six bytes at most, so that many bytes can always be counted.

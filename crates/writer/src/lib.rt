@@ -1,15 +1,12 @@
 // Session files written: rows of six numbers, one for each event (02, request 2026-01), or a cut of a recording (2026-07), become a
 // version 1 session in a lent output. Every call takes every input: what is wrong is told by its number, and then nothing is written.
-ghost use Rattle.writer.specs.Promises.{RowTold, Writes, cutOf, Cuts};
+ghost use Rattle.writer.specs.Promises.{Writes, cutOf, Cuts};
 use crate::judging::refusal_of;
-use crate::kinds::kind_of;
 use crate::loads::put_cut;
 use crate::order::cut_refusal;
 use crate::records::put_session;
-use rules::Event;
 
 mod judging;
-mod kinds;
 mod loads;
 mod order;
 mod pieces;
@@ -20,18 +17,6 @@ mod rows;
 pub struct Written {
     pub refusal: u32,
     pub place: usize,
-}
-
-// The row of an event: its kind, then its fields, 0 where the kind has none.
-pub fn row_of(e: Event) -> [u32; 6]
-    ensures { λ r. ⌜ RowTold e r ⌝ }
-{
-    match e {
-        Event::PowerUp(x) => [1, x.fitted, x.range, x.filter, x.kit, x.firmware],
-        Event::Write { offset, value } => [2, offset, value, 0, 0, 0],
-        Event::Read { offset } => [3, offset, 0, 0, 0, 0],
-        Event::Signal(s) => [kind_of(s), 0, 0, 0, 0, 0],
-    }
 }
 
 // 02: "from a lent slice of events, six numbers each (kind, then fields), it writes a version 1 session into a lent output, from a place

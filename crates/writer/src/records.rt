@@ -13,7 +13,7 @@ use crate::pieces::put_four;
 use crate::pieces::put_one;
 use crate::pieces::put_two;
 use crate::rows::row_at;
-use session::length_of;
+use kinds::length_of;
 
 // 01: "two-byte big-endian length of what follows, kind"
 fn put_head(out: &mut [u8], at: usize, kind: u32) -> usize

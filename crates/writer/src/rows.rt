@@ -5,7 +5,7 @@ ghost use mathlib.Core.List.{[], _∷_};
 ghost use lib.ListN.{length};
 ghost use Rattle.files.specs.Writing.{widths, fit, rowRefusal};
 ghost use Rattle.writer.specs.RowsFrom.{rowAt};
-use session::length_of;
+use kinds::length_of;
 
 // The six numbers from a place on.
 pub(crate) fn row_at(rows: &[u32], at: usize) -> [u32; 6]

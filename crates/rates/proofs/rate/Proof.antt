@@ -1,23 +1,13 @@
-use mathlib.Core.Path.{_≡_, sym, _∙_}
-use mathlib.Core.Bool.{Bool, true, false, not}
+use mathlib.Core.Path.{_∙_}
 use native.Mathlib.Omega.{arith}
 use borrow.Author.Needs.{needs}
-use borrow.Author.Tests.{eqb-false, not-true, not-false}
-use Rattle.rules.specs.declared.Board.{Board}
-use Rattle.rules.specs.Record.{sound}
+use borrow.Author.Tests.{eqb-false}
 use Rattle.rules.specs.Refusals.{firstOf}
 use Rattle.rules.specs.Rates.{rateRefusal, rates}
+use Rattle.rules.proofs.Equal.{told-true, told-false}
 use Rattle.rules.proofs.Soundness.{sound-exactly}
-use Rattle.soundness.specs.Promises.{SoundTold}
 use Rattle.rates.proofs.rate.Statement.{statement}
 use Rattle.rates.proofs.rate.Tie as tie
-
--- what was told of a record's soundness, by the test of it
-unsound : {b : Board} {r : Bool} → SoundTold b r → not r ≡ true → sound b ≡ false
-unsound {b} {r} p h = sym (p .told) ∙ not-true r h
-
-is-so : {b : Board} {r : Bool} → SoundTold b r → not r ≡ false → sound b ≡ true
-is-so {b} {r} p h = sym (p .told) ∙ not-false r h
 
 is-sound-requires : tie.Need-is-sound-requires
 is-sound-requires c κs = search needs
@@ -27,7 +17,7 @@ refused-requires c κs = search needs
 
 returns : tie.Need-returns
 unfolding rates rateRefusal firstOf
-returns c = record { told = c .refused .ensures ∙ rw (unsound (c .before .before .is-sound .ensures) (c .before .if1 .taken)) }
+returns c = record { told = c .refused .ensures ∙ rw (told-false (c .before .before .is-sound .ensures) (c .before .if1 .taken)) }
 
 refused-requires-2 : tie.Need-refused-requires-2
 refused-requires-2 c κs = search needs
@@ -36,7 +26,7 @@ returns-2 : tie.Need-returns-2
 unfolding rates rateRefusal firstOf
 returns-2 c =
     let t = c .before .before .before .before in
-    record { told = c .refused2 .ensures ∙ rw (is-so (t .before .is-sound .ensures) (t .if1 .left), c .before .if2 .taken) }
+    record { told = c .refused2 .ensures ∙ rw (told-true (t .before .is-sound .ensures) (t .if1 .left), c .before .if2 .taken) }
 
 refused-requires-3 : tie.Need-refused-requires-3
 refused-requires-3 c κs = search needs
@@ -45,25 +35,25 @@ returns-3 : tie.Need-returns-3
 unfolding rates rateRefusal firstOf
 returns-3 c =
     let t = c .before .before .before .before .before in
-    let sure = is-so (t .before .is-sound .ensures) (t .if1 .left) in
+    let sure = told-true (t .before .is-sound .ensures) (t .if1 .left) in
     record { told = c .refused3 .ensures ∙ rw (sure, c .before .before .if2 .left, c .before .if3 .taken) }
 
 whole-reference-requires : tie.Need-whole-reference-requires
 whole-reference-requires c κs =
     let t = c .before .before .before .before in
-    (sound-exactly _ .0 (is-so (t .before .is-sound .ensures) (t .if1 .left))) .nclk
+    (sound-exactly _ .0 (told-true (t .before .is-sound .ensures) (t .if1 .left))) .nclk
 
 sample-rate-requires : tie.Need-sample-rate-requires
 sample-rate-requires c κs =
     let t = c .before .before .before .before .before in
     let divided = eqb-false (t .before .before .args .b .core .clock .divisor) 0 (c .before .if3 .left) in
-    ((sound-exactly _ .0 (is-so (t .before .is-sound .ensures) (t .if1 .left))) .nclk, omega (arith, divided))
+    ((sound-exactly _ .0 (told-true (t .before .is-sound .ensures) (t .if1 .left))) .nclk, omega (arith, divided))
 
 returns-4 : tie.Need-returns-4
 unfolding rates rateRefusal firstOf
 returns-4 c =
     let t = c .before .before .before .before .before .before in
-    let sure = is-so (t .before .is-sound .ensures) (t .if1 .left) in
+    let sure = told-true (t .before .is-sound .ensures) (t .if1 .left) in
     let three = c .before .before in
     record { told = rw (sure, three .before .if2 .left, three .if3 .left, c .sample-rate .ensures, c .before .whole-reference .ensures) }
 

@@ -5,7 +5,7 @@ use Rattle.record.proofs.unpowered.Tie as tie
 
 returns : tie.Need-returns
 unfolding unpowered
-returns c = record { board = refl }
+returns c = record { told = refl }
 
 pub unpowered-spec : {M : Type 1} → statement M
 unpowered-spec = tie.close (tie.spec returns)

@@ -25,7 +25,7 @@ loop-holds : tie.Need-loop-holds Inv-loop μ-loop
 loop-holds c =
     let a = c .before .before .before .args in
     let w = way-start Finish State Leaves (a .s .now) (start (a .memory .now)) in
-    let q = ap (λ (b : Board). stateOf b (a .memory .now)) (c .start .ensures .board) in
+    let q = ap (λ (b : Board). stateOf b (a .memory .now)) (c .start .ensures .told) in
     (refl, subst (λ (st : State). Way Leaves (a .s .now) (start (a .memory .now)) st (record { place = 0 })) (sym q) w)
 
 advance-requires : tie.Need-advance-requires Inv-loop μ-loop

@@ -21,7 +21,7 @@ refused-requires : tie.Need-refused-requires Inv-loop μ-loop
 refused-requires c κs = tt
 
 loop-holds : tie.Need-loop-holds Inv-loop μ-loop
-loop-holds c = running-start _ _ _ _ (c .before .unpowered .ensures .board) (c .refused .ensures)
+loop-holds c = running-start _ _ _ _ (c .before .unpowered .ensures .told) (c .refused .ensures)
 
 next-requires : tie.Need-next-requires Inv-loop μ-loop
 next-requires c κs = tt

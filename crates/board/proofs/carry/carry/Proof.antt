@@ -1,7 +1,9 @@
 -- Each act does what the rules make of it.
-use mathlib.Core.Path.{refl, _∙_}
+use mathlib.Core.Path.{refl, ap, _∙_}
 use borrow.Author.Needs.{needs}
+use Rattle.rules.specs.Record.{activeSize}
 use Rattle.rules.specs.Place.{place}
+use Rattle.record.proofs.Depths.{capped-same}
 use Rattle.moves.proofs.Standing.{only-does}
 use Rattle.moves.proofs.Clocking.{clocked-does}
 use Rattle.plans.specs.Parts.{carried, Moves}
@@ -31,8 +33,7 @@ enum-known-act : tie.Need-enum-known-act
 enum-known-act c = search needs
 
 active-size-requires : tie.Need-active-size-requires
-unfolding Moves
-active-size-requires c κs = (c .before .before .before .before .before .pre (rw (c .before .act .given .1) tt)) .2
+active-size-requires c κs = tt
 
 load-requires : tie.Need-load-requires
 load-requires c κs = tt
@@ -67,7 +68,7 @@ unfolding carried Moves
 returns-4 c =
     let a = c .before .before .before .before .before .before .before .before .before .before .before .before .args in
     let q = c .before .before .before .before .before .before .before .before .before .before .before .before .pre (rw (c .before .before .before .before .before .before .before .before .act .given .1) tt) in
-    let size = c .before .before .before .before .before .before .active-size .ensures .0 in
+    let size = c .before .before .before .before .before .before .active-size .ensures .told ∙ ap activeSize (capped-same _ (q .2)) in
     rw (c .before .before .before .before .before .before .before .before .act .given .1, ← size)
     (load-does (a .p .core) _ (a .ring) (a .d) _ (a .memory .now) _ _ _ (q .0) (rw size (q .3)) (c .before .before .before .before .load .ensures) (c .lost-by .ensures))
 

@@ -12,7 +12,7 @@ request-held-requires c κs = search needs
 returns : tie.Need-returns
 returns c =
     let p = c .before .before .before .before .before .args .p in
-    λ i. record { core = p .core; size = c .before .size-after .ensures i; request = c .request-held .ensures i; ring = p .ring }
+    λ i. record { core = p .core; size = c .before .size-after .ensures .told i; request = c .request-held .ensures .told i; ring = p .ring }
 
 pub board-before-spec : {M : Type 1} → statement M
 board-before-spec = tie.close (tie.spec size-after-requires request-held-requires returns)

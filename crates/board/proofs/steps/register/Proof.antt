@@ -1,6 +1,8 @@
 -- A read answers its register, any other event 0.
+use mathlib.Core.Path.{_∙_}
 use borrow.Author.Needs.{needs}
 use Rattle.rules.specs.Step.{reading}
+use Rattle.record.proofs.Depths.{board-same}
 use Rattle.board.proofs.steps.register.Statement.{statement}
 use Rattle.board.proofs.steps.register.Tie as tie
 
@@ -14,7 +16,7 @@ enum-known-e : tie.Need-enum-known-e
 enum-known-e c = search needs
 
 read-at-requires : tie.Need-read-at-requires
-read-at-requires c κs = c .before .before .before .pre (rw (c .before .e .given .1) tt)
+read-at-requires c κs = search needs
 
 enum-told-3 : tie.Need-enum-told-3
 enum-told-3 c = search needs
@@ -29,7 +31,9 @@ returns-2 c = rw (c .enum-told2 .given .1)
 
 returns-3 : tie.Need-returns-3
 unfolding reading
-returns-3 c = rw (c .before .before .e .given .1) (c .read-at .ensures)
+returns-3 c =
+    let h = c .before .before .before .before .pre (rw (c .before .before .e .given .1) tt) in
+    rw (c .before .before .e .given .1) (c .read-at .ensures .told ∙ rw (board-same (c .before .before .before .before .args .b) h))
 
 returns-4 : tie.Need-returns-4
 unfolding reading

@@ -25,7 +25,7 @@ returns-4 : tie.Need-returns-4
 unfolding eventOf
 returns-4 c =
     let r = c .before .match .rest in
-    rw (ne-eqb _ _ (r .0 .0 .1), ne-eqb _ _ (r .0 .1), ne-eqb _ _ (r .1)) (ap signal (c .signal-of .ensures))
+    rw (ne-eqb _ _ (r .0 .0 .1), ne-eqb _ _ (r .0 .1), ne-eqb _ _ (r .1)) (ap signal (c .signal-of .ensures .told))
 
 pub event-of-spec : {M : Type 1} → statement M
 event-of-spec = tie.close (tie.spec signal-of-requires returns returns-2 returns-3 returns-4)

@@ -3,7 +3,9 @@ use mathlib.Core.Path.{sym, subst, _∙_}
 use mathlib.Core.Logic.{_≢_}
 use borrow.Author.Needs.{needs}
 use Rattle.rules.specs.declared.Board.{Board}
-use Rattle.record.specs.Promises.{DepthTold}
+use Rattle.rules.specs.Record.{depth}
+use Rattle.rules.specs.Told.{Told}
+use Rattle.record.specs.Capped.{cappedBoard}
 use Rattle.board.specs.Promises.{Stepped}
 use Rattle.run.specs.declared.Ahead.the-variants.{Found}
 use Rattle.lines.proofs.Printing.{printed-piece}
@@ -23,8 +25,8 @@ at-once-requires c κs =
     let z = c .before .before .before .before .before .before in
     let whole = c .before .before .whole .ensures in
     let told = c .before .before .before .common-of .ensures in
-    let depth : DepthTold (boardAs (z .args .rest) (z .args .core) (z .args .ring)) (z .args .d) = record { told = z .pre .0 .told } in (
-      subst (λ (b : Board). DepthTold b (z .args .d)) (sym whole) depth,
+    let deep : Told (depth (cappedBoard (boardAs (z .args .rest) (z .args .core) (z .args .ring)))) (z .args .d) = record { told = z .pre .0 .told } in (
+      subst (λ (b : Board). Told (depth (cappedBoard b)) (z .args .d)) (sym whole) deep,
       (λ i. quick (whole i) (z .args .d) ((told i) .kind)) ∙ z .pre .1,
       rw whole (z .pre .2),
     )

@@ -3,7 +3,7 @@ use Prim.Native.Nat.{ℕ}
 use mathlib.Core.Path.{refl, sym, subst, _∙_}
 use borrow.Author.Needs.{needs}
 use Rattle.rules.specs.Record.{State, stateOf}
-use Rattle.record.proofs.Told.{depth-told}
+use Rattle.record.proofs.Depths.{depth-told}
 use Rattle.moves.specs.Ready.{Ready}
 use Rattle.moves.proofs.Clocking.{clocked-does}
 use Rattle.board.proofs.Standing.{stands-ready, stands-sober}

@@ -7,9 +7,12 @@ use Rattle.listing.proofs.shortcuts.takes.Tie as tie
 closed-requires : tie.Need-closed-requires
 closed-requires c κs = search needs
 
+is-full-requires : tie.Need-is-full-requires
+is-full-requires c κs = search needs
+
 returns : tie.Need-returns
 unfolding takes all
-returns c = rw (c .before .before .closed .ensures .told)
+returns c = rw (c .is-full .ensures .told, c .before .before .closed .ensures .told)
 
 pub takes-spec : {M : Type 1} → statement M
-takes-spec = tie.close (tie.spec closed-requires returns)
+takes-spec = tie.close (tie.spec closed-requires is-full-requires returns)

@@ -36,7 +36,7 @@ loop-holds : tie.Need-loop-holds Inv-loop μ-loop
 unfolding unpowered
 loop-holds c =
     let z = c .before .before .before .before in
-    let dark = ap (λ (b : Board). b .core .powered) (c .unpowered .ensures .board) in (
+    let dark = ap (λ (b : Board). b .core .powered) (c .unpowered .ensures .told) in (
       refl,
       refl,
       walked-start (z .args .s .now) _ _
@@ -124,7 +124,7 @@ returns c =
     let put = c .before .before .put-end in
     let all = walked-then _ _ _ _ _ _ _ (l .loop .inv .2) (h .walked) in
     let w = walked-over (a .s .now) _ (h .cursor) _ (n .0 .0) (put .last .0) (put .result) all (sym (h .stands) ∙ n .1) (put .ensures) in
-    let dark = ap (λ (b : Board). stateOf b (a .memory .now)) (l .before .unpowered .ensures .board) in (
+    let dark = ap (λ (b : Board). stateOf b (a .memory .now)) (l .before .unpowered .ensures .told) in (
       subst (λ (st : State). Piece (a .out .now) (a .start) (body 1 st (session (a .s .now))) (put .last .0) (put .result)) dark (w .text),
       w .memory ∙ ap (λ (st : State). (after st ((session (a .s .now)) .events)) .memory) dark,
     )

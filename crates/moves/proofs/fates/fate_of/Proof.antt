@@ -1,6 +1,5 @@
 use mathlib.Core.Path.{sym, _∙_}
 use borrow.Author.Needs.{needs}
-use borrow.Author.Tests.{le-leb, lt-leb}
 use Rattle.rules.proofs.Choice.{cond-true, cond-false}
 use Rattle.moves.specs.Ready.{fateOf}
 use Rattle.moves.proofs.Entries.{load-test}
@@ -13,6 +12,9 @@ fits-requires c κs = search needs
 closed-requires : tie.Need-closed-requires
 closed-requires c κs = search needs
 
+is-full-requires : tie.Need-is-full-requires
+is-full-requires c κs = search needs
+
 returns : tie.Need-returns
 unfolding fateOf
 returns c =
@@ -23,16 +25,18 @@ returns c =
 returns-2 : tie.Need-returns-2
 unfolding fateOf
 returns-2 c =
-    let a = c .before .before .before .before .before .before .args in
-    let can = sym (load-test (a .size) (a .r) (a .d) (a .len) _ (c .before .before .before .before .before .fits2 .ensures)) ∙ c .before .before .before .before .if1 .taken in
-    sym (cond-true _ _ _ can ∙ cond-false _ _ _ (sym (c .before .before .before .closed .ensures .told) ∙ c .before .before .if2 .left) ∙ cond-true _ _ _ (le-leb _ _ (c .if3 .taken)))
+    let t = c .before .before in
+    let a = t .before .before .before .before .args in
+    let can = sym (load-test (a .size) (a .r) (a .d) (a .len) _ (t .before .before .before .fits2 .ensures)) ∙ t .before .before .if1 .taken in
+    sym (cond-true _ _ _ can ∙ cond-false _ _ _ (sym (t .before .closed .ensures .told) ∙ t .if2 .left) ∙ cond-true _ _ _ (sym (c .before .is-full .ensures .told) ∙ c .if3 .taken))
 
 returns-3 : tie.Need-returns-3
 unfolding fateOf
 returns-3 c =
-    let a = c .before .before .before .before .before .before .args in
-    let can = sym (load-test (a .size) (a .r) (a .d) (a .len) _ (c .before .before .before .before .before .fits2 .ensures)) ∙ c .before .before .before .before .if1 .taken in
-    sym (cond-true _ _ _ can ∙ cond-false _ _ _ (sym (c .before .before .before .closed .ensures .told) ∙ c .before .before .if2 .left) ∙ cond-false _ _ _ (lt-leb _ _ (c .if3 .left)))
+    let t = c .before .before in
+    let a = t .before .before .before .before .args in
+    let can = sym (load-test (a .size) (a .r) (a .d) (a .len) _ (t .before .before .before .fits2 .ensures)) ∙ t .before .before .if1 .taken in
+    sym (cond-true _ _ _ can ∙ cond-false _ _ _ (sym (t .before .closed .ensures .told) ∙ t .if2 .left) ∙ cond-false _ _ _ (sym (c .before .is-full .ensures .told) ∙ c .if3 .left))
 
 returns-4 : tie.Need-returns-4
 unfolding fateOf
@@ -42,4 +46,4 @@ returns-4 c =
 
 pub fate-of-spec : {M : Type 1} → statement M
 fate-of-spec =
-    tie.close (tie.spec fits-requires closed-requires returns returns-2 returns-3 returns-4)
+    tie.close (tie.spec fits-requires closed-requires returns is-full-requires returns-2 returns-3 returns-4)

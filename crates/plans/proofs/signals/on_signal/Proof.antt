@@ -49,7 +49,7 @@ settled-requires c κs = search needs
 
 returns : tie.Need-returns
 unfolding signalPlan
-returns c = rw (c .clocks-if .ensures, c .before .tick-accepted .ensures, c .before .before .enum-told .given .1) refl
+returns c = rw (c .clocks-if .ensures, c .before .tick-accepted .ensures .told, c .before .before .enum-told .given .1) refl
 
 returns-2 : tie.Need-returns-2
 unfolding signalPlan

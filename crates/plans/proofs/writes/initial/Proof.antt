@@ -1,17 +1,19 @@
 -- The record is `initial` literally, but for the mask, which `mask_limit` gives.
 use Prim.Native.Nat.{_-_}
+use native.Mathlib.Omega.{arith}
 use borrow.Author.Needs.{needs}
 use lib.ListN.{replicate}
 use Rattle.rules.specs.Parts.{withOutputs}
 use Rattle.rules.specs.Writes.{initial}
 use Rattle.plans.proofs.writes.initial.Statement.{statement}
+use Rattle.record.proofs.Limits.{limit-least}
 use Rattle.plans.proofs.writes.initial.Tie as tie
 
 mask-limit-requires : tie.Need-mask-limit-requires
 mask-limit-requires c κs = search needs
 
 sub-mask : tie.Need-sub-mask
-sub-mask c = search needs
+sub-mask c = omega (arith, limit-least _ _ (c .mask-limit .ensures))
 
 returns : tie.Need-returns
 unfolding initial

@@ -1,8 +1,10 @@
 -- The record is the one of `writeMask`, with the span of the mask from `mask_limit`.
 use Prim.Native.Nat.{_%_}
+use native.Mathlib.Omega.{arith}
 use borrow.Author.Needs.{needs}
 use Rattle.rules.specs.Parts.{withOutputs}
 use Rattle.rules.specs.Writes.{writeMask}
+use Rattle.record.proofs.Limits.{limit-least}
 use Rattle.plans.proofs.writes.write_mask.Statement.{statement}
 use Rattle.plans.proofs.writes.write_mask.Tie as tie
 
@@ -10,7 +12,7 @@ mask-limit-requires : tie.Need-mask-limit-requires
 mask-limit-requires c κs = search needs
 
 rem-mask : tie.Need-rem-mask
-rem-mask c = search needs
+rem-mask c = omega (arith, limit-least _ _ (c .mask-limit .ensures))
 
 returns : tie.Need-returns
 unfolding writeMask

@@ -1,13 +1,14 @@
 -- The depth is asked for only of a sound record, whose fitted code is in range.
-use mathlib.Core.Path.{_≡_, sym, _∙_}
+use mathlib.Core.Path.{_≡_}
 use mathlib.Core.Bool.{true}
 use native.Mathlib.Omega.{arith}
 use borrow.Author.Needs.{needs}
-use borrow.Author.Tests.{lt-ltb, le-ltb, not-true, not-false}
+use borrow.Author.Tests.{lt-ltb, le-ltb}
 use lib.ListN.{length}
 use Rattle.rules.specs.Record.{depth, sound}
+use Rattle.rules.proofs.Equal.{told-true, told-false}
 use Rattle.rules.proofs.Soundness.{sound-exactly}
-use Rattle.record.proofs.Told.{depth-told}
+use Rattle.record.proofs.Depths.{depth-told}
 use Rattle.refusals.proofs.events.standing.Statement.{statement}
 use Rattle.refusals.proofs.events.standing.Tie as tie
 
@@ -15,7 +16,7 @@ is-sound-requires : tie.Need-is-sound-requires
 is-sound-requires c κs = search needs
 
 returns : tie.Need-returns
-returns c = λ m h n. rw (sym (c .before .is-sound .ensures .told) ∙ not-true _ (c .if1 .taken))
+returns c = λ m h n. rw (told-false (c .before .is-sound .ensures) (c .if1 .taken))
 
 depth-requires : tie.Need-depth-requires
 depth-requires c κs = search needs
@@ -25,10 +26,10 @@ cast-if2 c = search needs
 
 -- past the first test the record is sound, and what was told is its depth
 is-so : (c : tie.After-depth) → sound (c .before .before .before .args .b) ≡ true
-is-so c = sym (c .before .before .is-sound .ensures .told) ∙ not-false _ (c .before .if1 .left)
+is-so c = told-true (c .before .before .is-sound .ensures) (c .before .if1 .left)
 
 told : (c : tie.After-depth) → c .depth .result ≡ depth (c .before .before .before .args .b)
-told c = depth-told _ _ (c .depth .ensures) ((sound-exactly _ .0 (is-so c)) .fitted)
+told c = depth-told (c .before .before .before .args .b) _ (c .depth .ensures) ((sound-exactly _ .0 (is-so c)) .fitted)
 
 returns-2 : tie.Need-returns-2
 returns-2 c = λ m h n. rw (is-so (c .before), lt-ltb (length m) (depth (c .before .before .before .before .args .b)) (omega (arith, h, c .if2 .taken, told (c .before))))

@@ -89,7 +89,7 @@ returns-4 c =
     let m = c .before in
     let r = m .match .rest in
     let b = m .before .byte-at .ensures .0 in
-    ap Signal (c .signal-of .ensures ∙ ap signalOf b)
+    ap Signal (c .signal-of .ensures .told ∙ ap signalOf b)
     ∙ sym (cond-false _ _ _ (ne-eqb _ _ (λ h. r .0 .0 .1 (b ∙ h))) ∙ cond-false _ _ _ (ne-eqb _ _ (λ h. r .0 .1 (b ∙ h))) ∙ cond-false _ _ _ (ne-eqb _ _ (λ h. r .1 (b ∙ h))))
 
 pub event-at-spec : {M : Type 1} → statement M

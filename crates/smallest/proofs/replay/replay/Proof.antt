@@ -18,7 +18,7 @@ unpowered-requires : tie.Need-unpowered-requires Inv-loop μ-loop
 unpowered-requires c κs = tt
 
 loop-holds : tie.Need-loop-holds Inv-loop μ-loop
-loop-holds c = replaying-start _ _ _ _ (c .unpowered .ensures .board)
+loop-holds c = replaying-start _ _ _ _ (c .unpowered .ensures .told)
 
 next-requires : tie.Need-next-requires Inv-loop μ-loop
 next-requires c κs = tt

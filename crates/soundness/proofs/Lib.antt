@@ -1,2 +1,0 @@
--- What the promise comes to.
-pub mod Unique
