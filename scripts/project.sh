@@ -3,7 +3,8 @@
 #   say WORDS, fail WORDS     a message on standard error; fail ends with status 2
 #   need TOOL WHY             fails in a sentence where a tool is missing
 #   make_program NAME...      proves and builds programs: target/bin/NAME
-#   make_archive NAME...      proves and builds archives for hosts: target/staticlib/libNAME.a
+#   make_archive NAME...      proves and builds the archive of a crate that hosts call: target/staticlib/libNAME.a
+#   make_library              proves and builds what hosts link, those of all such crates in one: target/staticlib/libnergutsai.a
 #   built_with NAME           the toolchain that built NAME
 # What was built from the sources as they are now, to the byte, is not built again. `quiet=0` shows what rt says.
 # shellcheck shell=sh disable=SC2154
@@ -108,4 +109,38 @@ make_program() { # NAME...
 
 make_archive() { # NAME...
     for one in "$@"; do make_by staticlib "$one" "target/staticlib/lib$one.a"; done
+}
+
+# One archive of all that hosts call, so that a program links one name. Its members are those of the crates' archives, to the byte: the
+# code that was proved and measured is the code that is linked.
+library=target/staticlib/libnergutsai.a
+hosted='bridge ferry quay tide gauge'
+
+parts_of_library() { (cd "$root/target/staticlib" && for one in $hosted; do sha256sum "lib$one.a"; done) | sha256sum | cut -d' ' -f1; }
+
+is_joined() {
+    [ -s "$root/$library" ] && [ -f "$root/target/made/nergutsai" ] || return 1
+    [ "$(cat "$root/target/made/nergutsai")" = "$(stamp_of "$(parts_of_library)" "$library" ar)" ]
+}
+
+join_archives() {
+    rm -rf "$root/target/made/members" && mkdir "$root/target/made/members" && cd "$root/target/made/members" || return
+    for one in $hosted; do ar x "../../staticlib/lib$one.a" "$one.o" || return; done
+    # shellcheck disable=SC2046,SC2086 # A word each. D: no times and no users in it, so it is the same wherever it is made.
+    ar crsD "$root/$library" $(printf '%s.o ' $hosted)
+}
+
+make_library() {
+    # shellcheck disable=SC2086 # A word each.
+    make_archive $hosted
+    ! is_joined || return 0
+    if [ -e "$root/$library" ]; then why="libnergutsai.a is not what the archives make"; else why="libnergutsai.a is not made yet"; fi
+    need ar "$why: install binutils, which ar is part of"
+    lock "$why"
+    if ! is_joined; then
+        rm -f "$root/$library" "$root/target/made/nergutsai" || fail "$why, and it cannot be made, since $root/target cannot be written"
+        (join_archives) || fail "libnergutsai.a could not be made; what ar said is above"
+        stamp_of "$(parts_of_library)" "$library" ar >"$root/target/made/nergutsai" || fail "$root/target cannot be written"
+    fi
+    unlock
 }

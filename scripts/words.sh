@@ -11,17 +11,17 @@ help_in() { # FILE
         fail "there is no usage text in $root/$1"
     cat <<'TEXT'
 
-The script needs rt, cargo and a C compiler: with rt it proves and builds libbridge.a,
-libferry.a, libquay.a, libtide.a and libgauge.a where they are not current, the first
-time in some minutes. Where one of the three tools is missing it ends with status 2.
-The archives are for Linux on x86-64. On another processor set CARGO_BUILD_TARGET to
+The script needs rt, cargo and a C compiler: with rt it proves and builds
+libnergutsai.a where it is not current, the first time in some minutes. Where one of
+the three tools is missing it ends with status 2.
+The archive is for Linux on x86-64. On another processor set CARGO_BUILD_TARGET to
 x86_64-unknown-linux-gnu, CARGO_TARGET_X86_64_UNKNOWN_LINUX_GNU_LINKER to a cross
 compiler and CARGO_TARGET_X86_64_UNKNOWN_LINUX_GNU_RUNNER to an emulator.
 TEXT
 }
 
 # An option is a line of TEXT that begins with two blanks and `--`. The word that it takes, if any, follows it in capitals: NAME is
-# one of the names behind the line's colon, any other a whole number, not below K where the line has `from K`.
+# one of the names behind the line's colon, DIR a folder, any other a whole number, not below K where the line has `from K`.
 take_words() { # TEXT WORD...
     text=$1
     shift
@@ -49,6 +49,10 @@ take_words() { # TEXT WORD...
                 n = split(line, names, /, | or /)
                 for (i = 1; i <= n; i++) if (names[i] "" == given "") exit
                 print "is none of " line
+                exit
+            }
+            if (line ~ /^  --[a-z-]+ DIR /) {
+                if (given == "") print "is no folder"
                 exit
             }
             least = match(line, / from [0-9]+/) ? substr(line, RSTART + 6, RLENGTH - 6) : 0

@@ -184,7 +184,7 @@ impl Ours {
     }
 
     fn list(&mut self, file: &[u8]) -> usize {
-        nergutsai::list(black_box(file), &mut self.memory, &mut self.output)
+        nergutsai::list_call(black_box(file), &mut self.memory, &mut self.output)
     }
 }
 

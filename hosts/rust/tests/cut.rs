@@ -1,6 +1,7 @@
 //! Cuts through the wrapper: what stands where, each refusal, and what a board plays of one.
 
-use nergutsai::{cut, cut_call, cut_room, event, Event, Order, Record, Refusal};
+use nergutsai::register::{bcr, bor, BCR, BOR};
+use nergutsai::{cut, cut_call, cut_room, event, Event, Fate, Order, Record, Refusal};
 
 const JUNK: u8 = 0xA5;
 
@@ -96,9 +97,8 @@ fn channel_k_plays_on_output_k() {
     let mut board = Record::unpowered();
     let mut memory = [0; 8];
     let mut done = |happening| {
-        let answer = event(&mut board, &mut memory, happening);
-        assert_eq!(answer.refusal, 0);
-        (answer.fate, board.levels().to_vec())
+        let answer = event(&mut board, &mut memory, happening).expect("it is no refused event");
+        (answer.fate, board.levels())
     };
     done(Event::PowerUp {
         fitted: 0,
@@ -111,9 +111,11 @@ fn channel_k_plays_on_output_k() {
         let value = u32::from_be_bytes(record[4..].try_into().unwrap());
         let offset = record[3].into();
         let fate = done(Event::Write { offset, value }).0;
-        assert_eq!(fate, (index > 0) as u32);
+        let first = [Fate::NoLoad, Fate::Stored][(index > 0) as usize];
+        assert_eq!(fate, first);
     }
-    for (offset, value) in [(0x00, 0x90), (0x0C, 0x20)] {
+    let together = bcr::OFFSET_BINARY | bcr::SIMULTANEOUS_OUTPUTS;
+    for (offset, value) in [(BCR, together), (BOR, bor::ENABLE_CLOCK)] {
         done(Event::Write { offset, value });
     }
     for group in [1, 2] {
@@ -121,7 +123,7 @@ fn channel_k_plays_on_output_k() {
         for (channel, level) in levels.iter().enumerate() {
             let chosen = FOUR.mask & 1 << channel != 0;
             let expected = if chosen {
-                RECORDING[4 * group + channel].into()
+                RECORDING[4 * group + channel]
             } else {
                 0x8000
             };

@@ -3,7 +3,7 @@
 mod common;
 
 use common::{damaged, session, JUNK};
-use nergutsai::{list, room, volts, volts_call, Event, Extremes, Refusal};
+use nergutsai::{list, volts, volts_call, Event, Extremes, Refusal};
 
 const ZERO: Extremes = Extremes {
     lowest: 0.0,
@@ -138,7 +138,7 @@ fn the_memory_is_as_the_run_left_it() {
     assert!(volts(&file, &mut memory).is_ok());
     assert_eq!(memory, left);
     let mut listed = [JUNK; 9];
-    assert_ne!(list(&file, &mut listed, &mut vec![0; room(file.len())]), 0);
+    assert!(list(&file, &mut listed).starts_with("REHEARSAL 1\n"));
     assert_eq!(listed, left);
 }
 

@@ -24,7 +24,7 @@ pub fn file(order: &Order, play: &Play, session: &[u8]) -> Vec<u8> {
 /// no `FILE` before them. Answers the first other line.
 pub fn look_at(file: &[u8], memory: &mut [u32], levels: &Levels) -> Result<(), String> {
     let mut output = vec![0; nergutsai::room(file.len())];
-    let length = nergutsai::list(file, memory, &mut output);
+    let length = nergutsai::list_call(file, memory, &mut output);
     let text = String::from_utf8_lossy(output.get(..length).unwrap_or(&[]));
     let mut lines = text.lines();
     let mut look = |expected: &str, whole: bool| match lines.next().unwrap_or("(none)") {

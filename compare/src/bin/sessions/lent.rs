@@ -71,7 +71,7 @@ impl Lent {
     fn call(&mut self, bytes: &[u8], output: usize) -> usize {
         self.file.set(bytes.iter().copied());
         self.output.unset(output);
-        nergutsai::list(
+        nergutsai::list_call(
             self.file.inside(),
             self.memory.ours.lent(),
             self.output.lent(),
