@@ -11,9 +11,9 @@ use Rattle.rules.specs.Place.{place}
 use Rattle.rules.proofs.Choice.{either}
 use Rattle.moves.specs.declared.Stored.{Stored}
 use Rattle.moves.specs.Ready.{Ready}
-use Rattle.moves.specs.Does.{Does, placeOf}
-use Rattle.moves.specs.Promises.{Loaded}
-use Rattle.moves.proofs.Entries.{load-whole}
+use Rattle.moves.specs.Does.{Does, ringPlace}
+use Rattle.moves.specs.Promises.{LoadsOne}
+use Rattle.moves.proofs.Tested.{load-whole}
 use Rattle.board.specs.Types.{Core, Ring}
 use Rattle.board.specs.Parts.{lostBy}
 
@@ -36,7 +36,7 @@ module _ (c : Core) (full : Bool) (v : ℕ) where
   load-moved = let ok : Play → Type 0 = λ p. 0 ≡ p .moved in either ok (closed c) refl (either ok full refl refl)
 
 pub load-does : (c : Core) (size : ℕ) (ring : Ring) (d v : ℕ) (m : List ℕ) (r : Stored) (m′ : List ℕ) (k : Core) → Ready d ring m → size ≤ d
-    → Loaded c size ring d v m r m′ → k ≡ lostBy (r .fate) c
+    → LoadsOne c size ring d v m r m′ → k ≡ lostBy (r .fate) c
     → Does d (writeData c (leb size (ring .count)) v) ring m (record { core = k; ring = r .ring; moved = 0; fate = r .fate }) m′
 load-does c size ring d v m r m′ k h s l e =
     let w = load-whole c size ring d v m h s in
@@ -45,6 +45,6 @@ load-does c size ring d v m r m′ k h s l e =
       core = e ∙ ap (λ (n : ℕ). lostBy n c) fate ∙ load-core c (leb size (ring .count)) v;
       moved = load-moved c (leb size (ring .count)) v;
       fate = fate;
-      ring = l .ring ∙ ap (λ (p : Play). (place d (p .op) (placeOf ring m)) .ring) w;
-      memory = l .memory ∙ ap (λ (p : Play). (place d (p .op) (placeOf ring m)) .memory) w;
+      ring = l .ring ∙ ap (λ (p : Play). (place d (p .op) (ringPlace ring m)) .ring) w;
+      memory = l .memory ∙ ap (λ (p : Play). (place d (p .op) (ringPlace ring m)) .memory) w;
     }

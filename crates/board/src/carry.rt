@@ -5,9 +5,9 @@ ghost use Rattle.rules.specs.Record.{activeSize};
 ghost use Rattle.rules.specs.Flags.{isFull};
 ghost use Rattle.moves.specs.Ready.{Ready};
 ghost use Rattle.channels.specs.Serving.{Sober};
-ghost use Rattle.moves.specs.Does.{Does, listed};
+ghost use Rattle.moves.specs.Does.{Does, ringValues};
 ghost use Rattle.moves.specs.Promises.{joined};
-ghost use Rattle.plans.specs.Parts.{carried, Moves};
+ghost use Rattle.plans.specs.Parts.{carried, MovesOrStores};
 ghost use Rattle.board.specs.Parts.{lostBy};
 use channels::serve;
 use moves::Frame;
@@ -55,8 +55,8 @@ pub(crate) fn clocked(c: Core, cursor: u32, levels: [u16; 20], x: Frame) -> Core
 }
 
 pub(crate) fn carry(p: Plan, size: Size, ring: Ring, d: u32, memory: &mut [u32]) -> Played
-    requires { ⌜ (Moves (p .act) → Ready d ring (now memory) × Sober (p .core) × (size .fitted ≤ 15) × (activeSize size ≤ d)) ⌝ }
-    ensures { λ r. ⌜ Does d (carried (p .act) (p .core) (listed d ring (now (memory .entry))) (isFull size (ring .count))) ring (now (memory .entry)) r (now (memory .exit)) ⌝ }
+    requires { ⌜ (MovesOrStores (p .act) → Ready d ring (now memory) × Sober (p .core) × (size .fitted ≤ 15) × (activeSize size ≤ d)) ⌝ }
+    ensures { λ r. ⌜ Does d (carried (p .act) (p .core) (ringValues d ring (now (memory .entry))) (isFull size (ring .count))) ring (now (memory .entry)) r (now (memory .exit)) ⌝ }
 {
     let core = p.core;
     let act = p.act;

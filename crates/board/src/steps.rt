@@ -16,7 +16,7 @@ use latches::size_after;
 use moves::Played;
 use plans::plan_of;
 use record::depth;
-use registers::read_at;
+use registers::register_at;
 use rules::Answer;
 use rules::Board;
 use rules::Event;
@@ -48,7 +48,7 @@ pub(crate) fn register(b: Board, e: Event) -> u32
             offset: _,
             value: _,
         } => 0,
-        Event::Read { offset } => read_at(b, offset),
+        Event::Read { offset } => register_at(b, offset),
         Event::Signal(_) => 0,
     }
 }

@@ -8,54 +8,54 @@ use lib.Dec.{eqb}
 use lib.ListN.{length}
 use Rattle.rules.specs.Step.{Outcome, step}
 use Rattle.rules.specs.Record.{stateOf}
+use Rattle.rules.specs.Told.{Told}
 use Rattle.board.specs.Promises.{Stepped}
 use Rattle.board.specs.declared.Reply.{Reply}
-use Rattle.layout.specs.Layout.{boardAt, rowOf, toldOf}
-use Rattle.layout.specs.Promises.{Told}
-use Rattle.rows.specs.Promises.{written}
+use Rattle.layout.specs.Layout.{boardAt, boardRow, toldOf}
+use Rattle.rows.specs.Promises.{rowWritten}
 use Rattle.bridge.specs.Types.{Board, Event}
-use Rattle.bridge.specs.Events.{eventAt}
-use Rattle.bridge.specs.Calls.{Left, status, answerRow, leftBy, left}
+use Rattle.bridge.specs.Events.{rowEvent}
+use Rattle.bridge.specs.Calls.{Left, callStatus, answerRow, leftBy, left}
 use Rattle.bridge.specs.Promises.{Called}
 
-pub row-written : (b : Board) (row : List ℕ) → length row ≡ 55 → written b row ≡ rowOf b
-unfolding written
+pub row-written : (b : Board) (row : List ℕ) → length row ≡ 55 → rowWritten b row ≡ boardRow b
+unfolding rowWritten
 row-written b row long = rw (eq-eqb _ _ long)
 
-pub read-whole : (row : List ℕ) (b : Board) → length row ≡ 55 → Told row b → b ≡ boardAt row
+pub read-whole : (row : List ℕ) (b : Board) → length row ≡ 55 → Told (toldOf row) b → b ≡ boardAt row
 unfolding toldOf
 read-whole row b long told = told .told ∙ rw (eq-eqb _ _ long)
 
-pub not-understood : (r m e a : List ℕ) (n : ℕ) → n ≡ status (length r) e (length a) → (n ≡ 0 → ⊥)
+pub not-understood : (r m e a : List ℕ) (n : ℕ) → n ≡ callStatus (length r) e (length a) → (n ≡ 0 → ⊥)
     → Called r m e a n r m a
 unfolding left
 not-understood r m e a n p z =
-    let x = ne-eqb (status (length r) e (length a)) 0 (λ k. z (p ∙ k)) in
+    let x = ne-eqb (callStatus (length r) e (length a)) 0 (λ k. z (p ∙ k)) in
     record { understood = p; row = rw x; memory = rw x; answer = rw x }
 
-understood-left : (r m e a : List ℕ) → status (length r) e (length a) ≡ 0
-    → leftBy r (step (stateOf (boardAt r) m) (eventAt e)) ≡ left r m e a
+understood-left : (r m e a : List ℕ) → callStatus (length r) e (length a) ≡ 0
+    → leftBy r (step (stateOf (boardAt r) m) (rowEvent e)) ≡ left r m e a
 unfolding left
 understood-left r m e a z = rw z
 
 -- the record, the event and the step are those of the row and of the numbers
 module _ (r m e a r′ m′ a′ : List ℕ) (b : Board) (ev : Event) (y : Reply) where
   pub understood :
-      status (length r) e (length a) ≡ 0 → length r ≡ 55 → Told r b → ev ≡ eventAt e → Stepped b m ev y m′
-      → a′ ≡ answerRow (y .answer) → r′ ≡ cond (eqb (y .answer .refusal) 0) (rowOf (y .board)) r
+      callStatus (length r) e (length a) ≡ 0 → length r ≡ 55 → Told (toldOf r) b → ev ≡ rowEvent e → Stepped b m ev y m′
+      → a′ ≡ answerRow (y .answer) → r′ ≡ cond (eqb (y .answer .refusal) 0) (boardRow (y .board)) r
       → Called r m e a 0 r′ m′ a′
   understood z long told ee s pa pr =
       let bb = read-whole r b long told in
       let o = understood-left r m e a z in
-      let w : step (stateOf b m) ev ≡ step (stateOf (boardAt r) m) (eventAt e) =
+      let w : step (stateOf b m) ev ≡ step (stateOf (boardAt r) m) (rowEvent e) =
       λ i. step (stateOf (bb i) m) (ee i) in
-      let wa : y .answer ≡ (step (stateOf (boardAt r) m) (eventAt e)) .answer =
+      let wa : y .answer ≡ (step (stateOf (boardAt r) m) (rowEvent e)) .answer =
       s .answer ∙ ap (λ (x : Outcome). x .answer) w in
-      let wb : y .board ≡ (step (stateOf (boardAt r) m) (eventAt e)) .state .board =
+      let wb : y .board ≡ (step (stateOf (boardAt r) m) (rowEvent e)) .state .board =
       s .board ∙ ap (λ (x : Outcome). x .state .board) w in
       record {
         understood = sym z;
-        row = pr ∙ (λ i. cond (eqb ((wa i) .refusal) 0) (rowOf (wb i)) r) ∙ ap (λ (x : Left). x .row) o;
+        row = pr ∙ (λ i. cond (eqb ((wa i) .refusal) 0) (boardRow (wb i)) r) ∙ ap (λ (x : Left). x .row) o;
         memory = s .memory ∙ ap (λ (x : Outcome). x .state .memory) w ∙ ap (λ (x : Left). x .memory) o;
         answer = pa ∙ ap answerRow wa ∙ ap (λ (x : Left). x .answer) o;
       }

@@ -9,20 +9,20 @@ use lib.ListN.{length}
 use Rattle.rules.specs.Step.{Outcome, step}
 use Rattle.rules.specs.Rates.{rates}
 use Rattle.rules.specs.Record.{stateOf}
-use Rattle.layout.specs.Layout.{at, boardAt, rowOf}
+use Rattle.layout.specs.Layout.{at, boardAt, boardRow}
 use Rattle.bridge.specs.Types.{Answer, Figures}
-use Rattle.bridge.specs.Events.{eventAt}
+use Rattle.bridge.specs.Events.{rowEvent}
 
 -- the lengths of a call that is looked at
-pub record Fits (row : ℕ) (e : List ℕ) (answer : ℕ) : Type 0 where
+pub record CallFits (row : ℕ) (e : List ℕ) (answer : ℕ) : Type 0 where
   pub record-long : row ≡ 55
   pub event-long : length e ≡ 6
   pub answer-long : answer ≡ 4
 
 -- why a call is not understood, the first that holds: 1 the record, 2 the event, 3 the answer is of another length; 4 no such
 -- kind of event; 0 it is understood
-unfoldable pub status : ℕ → List ℕ → ℕ → ℕ
-status row e answer =
+unfoldable pub callStatus : ℕ → List ℕ → ℕ → ℕ
+callStatus row e answer =
     cond (not (eqb row 55)) 1
     (cond (not (eqb (length e) 6)) 2
     (cond (not (eqb answer 4)) 3
@@ -41,7 +41,7 @@ pub record Left : Type 0 where
 abbrev pub leftBy : List ℕ → Outcome → Left
 leftBy row o =
     record {
-      row = cond (eqb (o .answer .refusal) 0) (rowOf (o .state .board)) row;
+      row = cond (eqb (o .answer .refusal) 0) (boardRow (o .state .board)) row;
       memory = o .state .memory;
       answer = answerRow (o .answer);
     }
@@ -49,13 +49,13 @@ leftBy row o =
 -- a call that is not understood leaves all as it was
 unfoldable pub left : List ℕ → List ℕ → List ℕ → List ℕ → Left
 left row memory e answer =
-    cond (eqb (status (length row) e (length answer)) 0)
-    (leftBy row (step (stateOf (boardAt row) memory) (eventAt e)))
+    cond (eqb (callStatus (length row) e (length answer)) 0)
+    (leftBy row (step (stateOf (boardAt row) memory) (rowEvent e)))
     (record { row = row; memory = memory; answer = answer })
 
 -- ---- The rate question
 
--- why a rate question is not understood, by the numbers that `status` has for it: 1 the record, 3 the room for the figures is
+-- why a rate question is not understood, by the numbers that `callStatus` has for it: 1 the record, 3 the room for the figures is
 -- of another length; 0 it is understood, whatever the record is
 unfoldable pub rateStatus : ℕ → ℕ → ℕ
 rateStatus row figures = cond (not (eqb row 55)) 1 (cond (not (eqb figures 3)) 3 0)

@@ -4,5 +4,5 @@ use mathlib.Core.List.{List}
 use Rattle.files.specs.Row.{eventOfRow}
 use Rattle.bridge.specs.Types.{Event}
 
-unfoldable pub eventAt : List ℕ → Event
-eventAt e = eventOfRow e
+unfoldable pub rowEvent : List ℕ → Event
+rowEvent e = eventOfRow e

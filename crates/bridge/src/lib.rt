@@ -4,10 +4,10 @@ ghost use mathlib.Core.Path.{_≡_};
 ghost use mathlib.Core.Bool.{cond};
 ghost use lib.Dec.{eqb};
 ghost use lib.ListN.{length};
-ghost use Rattle.layout.specs.Layout.{rowOf};
-ghost use Rattle.bridge.specs.Calls.{Fits, status, answerRow};
+ghost use Rattle.layout.specs.Layout.{boardRow};
+ghost use Rattle.bridge.specs.Calls.{CallFits, callStatus, answerRow};
 ghost use Rattle.bridge.specs.Promises.{Called, RateCalled};
-use crate::events::event_at;
+use crate::events::row_event;
 use crate::figures::put_figures;
 use board::Reply;
 use board::step;
@@ -21,7 +21,7 @@ mod figures;
 
 // Which of the reasons not to look at a call comes first, 0 if none does.
 fn status_of(row: usize, event: &[u32], answer: usize) -> u32
-    ensures { λ r. ⌜ (r ≡ status row (now (event .entry)) answer) × (r ≡ 0 → Fits row (now (event .entry)) answer) ⌝ }
+    ensures { λ r. ⌜ (r ≡ callStatus row (now (event .entry)) answer) × (r ≡ 0 → CallFits row (now (event .entry)) answer) ⌝ }
 {
     if row != 55 {
         return 1;
@@ -40,9 +40,9 @@ fn status_of(row: usize, event: &[u32], answer: usize) -> u32
 }
 
 // 01: "the given record comes back": a refused event leaves the row alone, and does not write it anew.
-fn put_record(refusal: u32, b: Board, row: &mut [u32])
+fn give_back(refusal: u32, b: Board, row: &mut [u32])
     requires { ⌜ length (now row) ≡ 55 ⌝ }
-    ensures { λ _. ⌜ now (row .exit) ≡ cond (eqb refusal 0) (rowOf b) (now (row .entry)) ⌝ }
+    ensures { λ _. ⌜ now (row .exit) ≡ cond (eqb refusal 0) (boardRow b) (now (row .entry)) ⌝ }
 {
     if refusal == 0 {
         put_board(b, row);
@@ -51,14 +51,14 @@ fn put_record(refusal: u32, b: Board, row: &mut [u32])
 
 fn put_reply(reply: Reply, row: &mut [u32], answer: &mut [u32])
     requires { ⌜ (length (now row) ≡ 55) × (length (now answer) ≡ 4) ⌝ }
-    ensures { λ _. ⌜ (now (row .exit) ≡ cond (eqb (reply .answer .refusal) 0) (rowOf (reply .board)) (now (row .entry))) × (now (answer .exit) ≡ answerRow (reply .answer)) ⌝ }
+    ensures { λ _. ⌜ (now (row .exit) ≡ cond (eqb (reply .answer .refusal) 0) (boardRow (reply .board)) (now (row .entry))) × (now (answer .exit) ≡ answerRow (reply .answer)) ⌝ }
 {
     let a = reply.answer;
     answer[0] = a.refusal;
     answer[1] = a.register;
     answer[2] = a.moved;
     answer[3] = a.fate;
-    put_record(a.refusal, reply.board, row);
+    give_back(a.refusal, reply.board, row);
 }
 
 // One event. Answers 0 where the call was understood, be the event done or refused; else why it was not (specs/Calls.antt).
@@ -75,7 +75,7 @@ pub extern "C" fn nergutsai_event(
     if n != 0 {
         return n;
     }
-    put_reply(step(board_at(row), memory, event_at(event)), row, answer);
+    put_reply(step(board_at(row), memory, row_event(event)), row, answer);
     0
 }
 

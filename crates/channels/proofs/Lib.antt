@@ -3,4 +3,4 @@ pub mod Heads
 pub mod Single
 pub mod Moving
 pub mod Ranges
-pub mod Told
+pub mod ServingTold

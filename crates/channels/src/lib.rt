@@ -2,13 +2,13 @@
 // (`Told` of rules/specs/Told.antt).
 ghost use Rattle.rules.specs.Told.{Told};
 ghost use Rattle.channels.specs.Serving.{servingOf};
-use crate::sizes::to_move;
+use crate::amounts::to_move;
 use crate::targets::cursor_after;
 use crate::targets::served;
 use rules::Core;
 use status::closed;
 
-mod sizes;
+mod amounts;
 mod targets;
 
 // What an accepted clock is to do: the channels that it gives a value each, as a mask; how many these are; the cursor after it; and

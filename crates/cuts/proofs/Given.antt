@@ -22,7 +22,7 @@ use Rattle.files.proofs.WritesGiven.{decided, past-decided, short-decided, room
 use Rattle.cuts.specs.Cut.{Cut, chosen, groups, numbers, eofOnLast, events, isGrouped, isChoice, cutRefusal, cutEnd, cutOutput}
 use Rattle.cuts.specs.Laws.{Grouped, GoodChoice, Session-told, CutGiven, badGroup, partGroup, empty, outside, reversed, beyond, pastEnd, tooLong, done, Cut-exactly, Cut-refused}
 use Rattle.cuts.proofs.Lists.{map-at, eof-told}
-use Rattle.cuts.proofs.Numbers.{chosen-ones, numbers-long}
+use Rattle.cuts.proofs.ChosenNumbers.{chosen-ones, numbers-long}
 
 -- ---- The session
 

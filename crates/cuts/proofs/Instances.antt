@@ -19,7 +19,7 @@ use Rattle.cuts.specs.Cut.{Cut, sample, chosen, eofOnLast, numbersFrom, 
 use Rattle.cuts.specs.Laws.{Sixteen}
 use Rattle.cuts.specs.Plays.{Ordered, Equipped, Playable, controlFirst, bufferFirst, OnItsOutput}
 use Rattle.cuts.specs.Examples.{small, cutOfFour}
-use Rattle.cuts.specs.Instances.{six, twenty, leftOver, wide, cutOfEight, together, inTurn, shippedBoard, Cuts-met}
+use Rattle.cuts.specs.Instances.{six, twenty, leftOver, twoGroups, cutOfEight, together, inTurn, shippedBoard, Cuts-met}
 use Rattle.cuts.proofs.Given.{bits-inside, good-cut}
 use Rattle.cuts.proofs.Loading.{cut-stored}
 use Rattle.cuts.proofs.Shipped.{shipped-plays}
@@ -62,7 +62,7 @@ four-sixteen : allSixteen small ≡ true
 unfolding allSixteen
 four-sixteen = refl
 
-eight-sixteen : allSixteen wide ≡ true
+eight-sixteen : allSixteen twoGroups ≡ true
 unfolding allSixteen
 eight-sixteen = refl
 
@@ -91,7 +91,7 @@ four-plays =
 
 eight-plays : OnItsOutput cutOfEight 0x00 (shippedBoard cutOfEight twenty inTurn)
 eight-plays =
-    (shipped-plays cutOfEight twenty 0x00 0x20 inTurn leftOver (replicate 73 0) 0 (sixteen wide eight-sixteen) eight-good eight-equipped in-turn-plays
+    (shipped-plays cutOfEight twenty 0x00 0x20 inTurn leftOver (replicate 73 0) 0 (sixteen twoGroups eight-sixteen) eight-good eight-equipped in-turn-plays
     (omega arith) (omega arith) bufferFirst) .plays
 
 -- ---- Two levels of each

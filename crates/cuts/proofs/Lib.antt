@@ -1,6 +1,6 @@
 -- The laws and theorems of specs/; each file opens with what it shows.
 pub mod Lists
-pub mod Numbers
+pub mod ChosenNumbers
 pub mod Given
 pub mod Passing
 pub mod Loading

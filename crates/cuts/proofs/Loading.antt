@@ -35,7 +35,7 @@ use Rattle.laws.proofs.Loads.{load-loaded}
 use Rattle.cuts.specs.Cut.{Cut, numbers, eofOnLast, events}
 use Rattle.cuts.specs.Plays.{Equipped, Ordered, powered, Fine, none, next, Cut-stored}
 use Rattle.cuts.proofs.Lists.{eof-told}
-use Rattle.cuts.proofs.Numbers.{numbers-small}
+use Rattle.cuts.proofs.ChosenNumbers.{numbers-small}
 use Rattle.cuts.proofs.Passing.{Done, event-done, write-open, no-loss}
 
 offset-04 : Offset 0x04

@@ -23,11 +23,11 @@ use Rattle.laws.proofs.Among.{among-nil, among-cons}
 use Rattle.cuts.specs.Cut.{Cut, sample, chosen, groups, numbers, eofOnLast, events}
 use Rattle.cuts.specs.Plays.{Equipped, Ordered, powered, Fine, Playable, EitherOrder, manyTicks, GroupByGroup, InTurn, OnItsOutput, Channel-plays}
 use Rattle.cuts.proofs.Lists.{eof-told, eof-data}
-use Rattle.cuts.proofs.Numbers.{chosen-is, chosen-channels, numbers-long, numbers-at}
+use Rattle.cuts.proofs.ChosenNumbers.{chosen-is, chosen-channels, numbers-long, numbers-at}
 use Rattle.cuts.proofs.Passing.{fine-append, ticks-fine}
 use Rattle.cuts.proofs.Loading.{cut-loaded, cut-stored}
 use Rattle.cuts.proofs.TwoWrites.{Playing, BothDone, two-done}
-use Rattle.cuts.proofs.Ticks.{tick-moves, tick-playing, tick-given, simultaneous-targets, sequential-targets}
+use Rattle.cuts.proofs.Ticks.{tick-moves, tick-playing, tick-given, play-targets, sequential-targets}
 use Rattle.cuts.proofs.Order.{next-from}
 
 -- one tick more comes last
@@ -79,7 +79,7 @@ module _ (q : Cut) (o : Ordered q) (v : ℕ) (s : State) where
     Before j x = Playing (q .mask) v (drop (j * c) vs) 0 x
 
     all-targets : (j : ℕ) (x : State) → Before j x → targets (x .board .core) ≡ chosen q
-    all-targets j x p = simultaneous-targets _ (q .mask) v 0 (p .ready) mode ∙ sym (chosen-is q)
+    all-targets j x p = play-targets _ (q .mask) v 0 (p .ready) mode ∙ sym (chosen-is q)
 
     enough : (j : ℕ) (x : State) → j < groups q → Before j x → length (targets (x .board .core)) ≤ length (drop (j * c) vs)
     enough j x l p = omega (arith, ap length (all-targets j x p), length-drop (j * c) vs, group-left j l)

@@ -23,7 +23,7 @@ use Rattle.files.proofs.WriteRead.{file-stands, file-reread}
 use Rattle.cuts.specs.Cut.{Cut, numbers, eofOnLast, events, cutRefusal, cutOutput}
 use Rattle.cuts.specs.Laws.{Sixteen, Cut-read}
 use Rattle.cuts.specs.Plays.{Equipped, Ordered, Fine, next as then, Playable, EitherOrder, controlFirst, bufferFirst, manyTicks, shipped, cutBytes, PlaysRead, Shipped-plays}
-use Rattle.cuts.proofs.Numbers.{mask-small, numbers-small}
+use Rattle.cuts.proofs.ChosenNumbers.{mask-small, numbers-small}
 use Rattle.cuts.proofs.Given.{GoodCut, good-cut, cut-ends, cut-leaves}
 use Rattle.cuts.proofs.Loading.{marked-small}
 use Rattle.cuts.proofs.Passing.{no-loss}

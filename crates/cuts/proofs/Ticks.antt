@@ -94,9 +94,9 @@ module _ (mask v : ℕ) (vs : List ℕ) (cursor : ℕ) (s : State) (p : Playing 
 
 -- ---- The targets
 
-pub simultaneous-targets : (c : Core) (mask v n : ℕ) → ReadyToPlay mask v n c → bit 7 v ≡ true → targets c ≡ activeFrom 0 mask
+pub play-targets : (c : Core) (mask v n : ℕ) → ReadyToPlay mask v n c → bit 7 v ≡ true → targets c ≡ activeFrom 0 mask
 unfolding targets
-simultaneous-targets c mask v n r t = rw (r .simultaneous, t) (ap (activeFrom 0) (r .mask-is))
+play-targets c mask v n r t = rw (r .simultaneous, t) (ap (activeFrom 0) (r .mask-is))
 
 pub sequential-targets : (c : Core) (mask v n : ℕ) → ReadyToPlay mask v n c → bit 7 v ≡ false
     → targets c ≡ headOr 0 (activeFrom n mask ++ activeFrom 0 mask) ∷ []

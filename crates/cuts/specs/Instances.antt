@@ -26,8 +26,8 @@ abbrev pub leftOver : List ℕ
 leftOver = replicate 8 0xFFFFFFFF
 
 -- two groups of twenty channels: 0x0100 to 0x0113, and 0x9100 to 0x9113
-abbrev pub wide : List ℕ
-wide =
+abbrev pub twoGroups : List ℕ
+twoGroups =
     0x0100 ∷ 0x0101 ∷ 0x0102 ∷ 0x0103 ∷ 0x0104 ∷ 0x0105 ∷ 0x0106 ∷ 0x0107 ∷ 0x0108 ∷ 0x0109
     ∷ 0x010A ∷ 0x010B ∷ 0x010C ∷ 0x010D ∷ 0x010E ∷ 0x010F ∷ 0x0110 ∷ 0x0111 ∷ 0x0112 ∷ 0x0113
     ∷ 0x9100 ∷ 0x9101 ∷ 0x9102 ∷ 0x9103 ∷ 0x9104 ∷ 0x9105 ∷ 0x9106 ∷ 0x9107 ∷ 0x9108 ∷ 0x9109
@@ -36,7 +36,7 @@ wide =
 
 -- the manual's example, "Channels 3, 16 and 18", and channel 0: eight numbers, as many as the depth
 abbrev pub cutOfEight : Cut
-cutOfEight = record { recording = wide; channels = 20; first = 0; last = 1; mask = 0x50009 }
+cutOfEight = record { recording = twoGroups; channels = 20; first = 0; last = 1; mask = 0x50009 }
 
 -- offset binary, all channels of a group at once; and two's complement, one after the other, the writes the other way round
 abbrev pub together : List Event

@@ -11,20 +11,20 @@ use Rattle.text.specs.Listing.{text, room}
 use Rattle.listing.specs.Promises.{Lists}
 use Rattle.ferry.specs.Promises.{ListCalled}
 
-unfoldable pub bytesOf : Listed → ℕ
-bytesOf (Text n) = n
-bytesOf (Short n) = 0
+unfoldable pub bytesListed : Listed → ℕ
+bytesListed (Text n) = n
+bytesListed (Short n) = 0
 
-bytes-cond : (t : Bool) (k n : ℕ) → bytesOf (cond t (Short k) (Text n)) ≡ cond t 0 n
-unfolding bytesOf
+bytes-cond : (t : Bool) (k n : ℕ) → bytesListed (cond t (Short k) (Text n)) ≡ cond t 0 n
+unfolding bytesListed
 bytes-cond true k n = refl
 bytes-cond false k n = refl
 
 pub list-called : (s m out : List ℕ) (r : Listed) (n : ℕ) (m′ out′ : List ℕ)
-    → Lists s m out r m′ out′ → bytesOf r ≡ n → ListCalled s m out n m′ out′
+    → Lists s m out r m′ out′ → bytesListed r ≡ n → ListCalled s m out n m′ out′
 list-called s m out r n m′ out′ x e =
     record {
-      answer = sym e ∙ ap bytesOf (x .answer) ∙ bytes-cond (ltb (length out) (room (length s))) (room (length s)) (length (text s m));
+      answer = sym e ∙ ap bytesListed (x .answer) ∙ bytes-cond (ltb (length out) (room (length s))) (room (length s)) (length (text s m));
       memory = x .memory;
       output = x .output;
     }

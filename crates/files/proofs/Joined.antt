@@ -28,5 +28,5 @@ pub piece-length : {o o1 xs : List ℕ} {at p : ℕ} → Piece o at xs o1 p → 
 piece-length {o} {o1} {xs} {at} a = ap length (a .text) ∙ length-sets o at xs
 
 -- the room that is left after a piece of at most n bytes
-pub room : {o o1 xs : List ℕ} {at p : ℕ} (n k : ℕ) → at + (n + k) ≤ length o → Piece o at xs o1 p → length xs ≤ n → p + k ≤ length o1
-room n k h a l = omega (arith, piece-length a)
+pub room-after : {o o1 xs : List ℕ} {at p : ℕ} (n k : ℕ) → at + (n + k) ≤ length o → Piece o at xs o1 p → length xs ≤ n → p + k ≤ length o1
+room-after n k h a l = omega (arith, piece-length a)

@@ -63,5 +63,5 @@ pub zero-unknown : (k : ℕ) → lengthOf k ≡ 0 → (n : ℕ) → ¬ Known k n
 zero-unknown k z n h = known-some k n h (sym (known-length k n h) ∙ z)
 
 -- the bytes of a record of a known kind are there
-pub room : (s : List ℕ) (at k n : ℕ) → Known k n → byteAt s at ≡ k → at + lengthOf (byteAt s at) ≤ length s → at + n ≤ length s
-room s at k n h e l = subst (λ (x : ℕ). at + x ≤ length s) (ap lengthOf e ∙ known-length k n h) l
+pub record-room : (s : List ℕ) (at k n : ℕ) → Known k n → byteAt s at ≡ k → at + lengthOf (byteAt s at) ≤ length s → at + n ≤ length s
+record-room s at k n h e l = subst (λ (x : ℕ). at + x ≤ length s) (ap lengthOf e ∙ known-length k n h) l

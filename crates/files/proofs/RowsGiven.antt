@@ -17,7 +17,7 @@ use Rattle.rules.specs.declared.Signal.the-variants.{Passed as passed, Failed a
 use Rattle.files.specs.File.{lengthOf, signalOf}
 use Rattle.files.specs.Row.{rowOf, field, eventOfRow}
 use Rattle.files.specs.Bytes.{Fits}
-use Rattle.files.specs.Writing.{widths, fit, rowRefusal}
+use Rattle.files.specs.Writing.{widths, fitWidths, rowRefusal}
 use Rattle.files.specs.Laws.{Known}
 use Rattle.files.specs.Laws.{powerUp as knownPowerUp, write as knownWrite, read as knownRead, signal as knownSignal}
 use Rattle.files.specs.WritingLaws.{BadRow, unknownKind, misfit, RowGiven, bad, good, Row-exactly, Row-back}
@@ -43,7 +43,7 @@ row-numbers = six (λ r. r ≡ field r 0 ∷ field r 1 ∷ field r 2 ∷ field r
 -- ---- The row of an event whose fields fit is good
 
 pub good-row : (e : Event) → Fits e → rowRefusal (rowOf e) ≡ 0
-unfolding rowRefusal firstOf lengthOf widths fit
+unfolding rowRefusal firstOf lengthOf widths fitWidths
 good-row (powerUp x) h = rw (lt-ltb _ _ (h .0), lt-ltb _ _ (h .1), lt-ltb _ _ (h .2), lt-ltb _ _ (h .3), lt-ltb _ _ (h .4))
 good-row (write o v) h = rw (lt-ltb _ _ (h .0), lt-ltb _ _ (h .1))
 good-row (read o) h = rw (lt-ltb _ _ h)
@@ -60,9 +60,9 @@ no-row r n h e f q = omega (arith, sym h ∙ ap rowRefusal q ∙ good-row e f)
 
 -- ---- A good row is that of such an event
 
-below : (x w : ℕ) (xs ws : List ℕ) → fit (x ∷ xs) (w ∷ ws) ≡ true → (x < 256 ^ w) × (fit xs ws ≡ true)
-unfolding fit
-below x w xs ws h = let t = and-both (ltb x (256 ^ w)) (fit xs ws) h in (ltb-true x (256 ^ w) (t .0), t .1)
+below : (x w : ℕ) (xs ws : List ℕ) → fitWidths (x ∷ xs) (w ∷ ws) ≡ true → (x < 256 ^ w) × (fitWidths xs ws ≡ true)
+unfolding fitWidths
+below x w xs ws h = let t = and-both (ltb x (256 ^ w)) (fitWidths xs ws) h in (ltb-true x (256 ^ w) (t .0), t .1)
 
 none : (x : ℕ) → x < 256 ^ 0 → x ≡ 0
 none x h = omega arith
@@ -73,7 +73,7 @@ widths-signal kind h =
     rw (ne-eqb kind 1 (λ e. omega (arith, e)), ne-eqb kind 2 (λ e. omega (arith, e)), ne-eqb kind 3 (λ e. omega (arith, e)))
 
 module _ (a b c d e : ℕ) where
-  all-below : (v w x y z : ℕ) → fit (a ∷ b ∷ c ∷ d ∷ e ∷ []) (v ∷ w ∷ x ∷ y ∷ z ∷ []) ≡ true
+  all-below : (v w x y z : ℕ) → fitWidths (a ∷ b ∷ c ∷ d ∷ e ∷ []) (v ∷ w ∷ x ∷ y ∷ z ∷ []) ≡ true
       → (a < 256 ^ v) × (b < 256 ^ w) × (c < 256 ^ x) × (d < 256 ^ y) × (e < 256 ^ z)
   all-below v w x y z h =
       let p = below a v _ _ h in
@@ -83,7 +83,7 @@ module _ (a b c d e : ℕ) where
       let t = below e z _ _ (s .1) in
       (p .0, q .0, r .0, s .0, t .0)
 
-  fitted : (k n : ℕ) → Known k n → fit (a ∷ b ∷ c ∷ d ∷ e ∷ []) (widths k) ≡ true → RowGiven (k ∷ a ∷ b ∷ c ∷ d ∷ e ∷ []) 0
+  fitted : (k n : ℕ) → Known k n → fitWidths (a ∷ b ∷ c ∷ d ∷ e ∷ []) (widths k) ≡ true → RowGiven (k ∷ a ∷ b ∷ c ∷ d ∷ e ∷ []) 0
   unfolding widths
   fitted k n knownPowerUp h =
       good (powerUp (record { fitted = a; range = b; filter = c; kit = d; firmware = e })) (all-below 1 1 1 1 2 h) refl
@@ -94,7 +94,7 @@ module _ (a b c d e : ℕ) where
       let f = all-below 1 0 0 0 0 h in
       good (read a) (f .0) (λ i. 3 ∷ a ∷ none b (f .1) i ∷ none c (f .2) i ∷ none d (f .3) i ∷ none e (f .4) i ∷ [])
   fitted k n (knownSignal j l m) h =
-      let f = all-below 0 0 0 0 0 (ap (fit (a ∷ b ∷ c ∷ d ∷ e ∷ [])) (sym (widths-signal j l)) ∙ h) in
+      let f = all-below 0 0 0 0 0 (ap (fitWidths (a ∷ b ∷ c ∷ d ∷ e ∷ [])) (sym (widths-signal j l)) ∙ h) in
       let kind = sym (signal-kind j l m) in
       good (signal (signalOf j)) tt
       (λ i. kind i ∷ none a (f .0) i ∷ none b (f .1) i ∷ none c (f .2) i ∷ none d (f .3) i ∷ none e (f .4) i ∷ [])
@@ -107,7 +107,7 @@ module _ (a b c d e : ℕ) where
       let r : List ℕ = k ∷ a ∷ b ∷ c ∷ d ∷ e ∷ [] in
       cases (RowGiven r) (eqb (lengthOf k) 0) (λ t. bad (unknownKind (zero-unknown k (eqb-true _ _ t)))) (λ u.
       let h = length-known k (eqb-false _ _ u) in
-      cases (RowGiven r) (not (fit (a ∷ b ∷ c ∷ d ∷ e ∷ []) (widths k)))
+      cases (RowGiven r) (not (fitWidths (a ∷ b ∷ c ∷ d ∷ e ∷ []) (widths k)))
       (λ t. bad (misfit _ h (no-row r 29 (cond-false _ _ _ u ∙ cond-true _ _ _ t))))
       (λ t. fitted k _ h (not-false _ t)))
 

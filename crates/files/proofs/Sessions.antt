@@ -48,12 +48,12 @@ session-refused s why p h = subst (λ (x : End). There s (Over x)) h (ends-there
 
 -- ---- The place is in the file
 
-abbrev pub Within : List ℕ → Item → Type 0
-Within s (Got e next) = Unit {0}
-Within s (Over File) = Unit {0}
-Within s (Over (Refused why p)) = p ≤ length s
+abbrev pub PlaceInFile : List ℕ → Item → Type 0
+PlaceInFile s (Got e next) = Unit {0}
+PlaceInFile s (Over File) = Unit {0}
+PlaceInFile s (Over (Refused why p)) = p ≤ length s
 
-record-within : (s : List ℕ) (at : ℕ) (i : Item) → Record s at i → Within s i
+record-within : (s : List ℕ) (at : ℕ) (i : Item) → Record s at i → PlaceInFile s i
 record-within s at i (ended h) = tt
 record-within s at i (halfLength h k) = omega arith
 record-within s at i (shortBody h k) = omega arith
@@ -62,7 +62,7 @@ record-within s at i (unknown w z u) = omega arith
 record-within s at i (lengthWrong n w z k e) = omega arith
 record-within s at i (event w k) = tt
 
-pub given-within : (s : List ℕ) (at : ℕ) (i : Item) → ItemGiven s at i → Within s i
+pub given-within : (s : List ℕ) (at : ℕ) (i : Item) → ItemGiven s at i → PlaceInFile s i
 given-within s at i (badVersion h) = omega arith
 given-within s at i (first h j r) = record-within s 1 j r
 given-within s at i (later k j r) = record-within s (suc k) j r

@@ -82,13 +82,13 @@ given-file s n p (done at r h) = ap verdict (over-ends s at _ r (ended h))
 
 -- ---- It always comes to one of them
 
-abbrev Told : List ℕ → End → Type 0
-Told s e = FileGiven s ((verdict e) .number) ((verdict e) .place)
+abbrev EndTold : List ℕ → End → Type 0
+EndTold s e = FileGiven s ((verdict e) .number) ((verdict e) .place)
 
 -- by the record at a place; `rest` is what is told from a later one on
 told-record : (s : List ℕ) (f at : ℕ) → Reached s at
-    → ((next : ℕ) → Reached s next → at + 3 ≤ next → Told s ((from f s next) .end))
-    → (i : Item) → Record s at i → Told s ((onItem (from f s) i) .end)
+    → ((next : ℕ) → Reached s next → at + 3 ≤ next → EndTold s ((from f s next) .end))
+    → (i : Item) → Record s at i → EndTold s ((onItem (from f s) i) .end)
 unfolding faultNumber
 told-record s f at r rest i (ended h) = done at r h
 told-record s f at r rest i (halfLength a b) = inLength at r a b
@@ -98,24 +98,24 @@ told-record s f at r rest i (unknown w z u) = unknownKind at r w z u
 told-record s f at r rest i (lengthWrong n w z k e) = wrongLength at n r w z k e
 told-record s f at r rest i (event w k) = rest _ (passed at r w k) (omega (arith, known-some _ _ k))
 
-told-from : (f : ℕ) (s : List ℕ) (at : ℕ) → Reached s at → length s < at + f → Told s ((from f s at) .end)
+told-from : (f : ℕ) (s : List ℕ) (at : ℕ) → Reached s at → length s < at + f → EndTold s ((from f s at) .end)
 unfolding from
 told-from zero s at r l = absurd (omega (arith, (reached-within s at r) .1))
 told-from (suc f) s at r l =
-    subst (λ (i : Item). Told s ((onItem (from f s) i) .end)) (sym (reached-item s at r))
+    subst (λ (i : Item). EndTold s ((onItem (from f s) i) .end)) (sym (reached-item s at r))
     (told-record s f at r (λ next q g. told-from f s next q (omega arith)) (recordAt s at) (given-one s at))
 
-told-file : (s : List ℕ) → Told s ((session s) .end)
+told-file : (s : List ℕ) → EndTold s ((session s) .end)
 unfolding faultNumber
 told-file s = go (eqb (byteAt s 0) 1) refl
   where
-    go : (t : Bool) → eqb (byteAt s 0) 1 ≡ t → Told s ((session s) .end)
+    go : (t : Bool) → eqb (byteAt s 0) 1 ≡ t → EndTold s ((session s) .end)
     go true e =
         let h = eqb-true (byteAt s 0) 1 e in
-        subst (λ (x : Session). Told s (x .end)) (sym (session-opened s h)) (told-from (suc (length s)) s 1 (opened h) (omega arith))
+        subst (λ (x : Session). EndTold s (x .end)) (sym (session-opened s h)) (told-from (suc (length s)) s 1 (opened h) (omega arith))
     go false e =
         let h = eqb-false (byteAt s 0) 1 e in
-        subst (Told s) (sym (version-ends s h)) (notOpened h)
+        subst (EndTold s) (sym (version-ends s h)) (notOpened h)
 
 pub file-exactly : File-exactly
 file-exactly s n p = (

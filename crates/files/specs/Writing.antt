@@ -46,14 +46,14 @@ widths kind =
     (cond (eqb kind 3) (1 ∷ 0 ∷ 0 ∷ 0 ∷ 0 ∷ []) (0 ∷ 0 ∷ 0 ∷ 0 ∷ 0 ∷ [])))
 
 -- each field is below 256 to the number of its bytes; of a field that has none that leaves 0 alone
-unfoldable pub fit : List ℕ → List ℕ → Bool
-fit [] ws = true
-fit (x ∷ xs) [] = true
-fit (x ∷ xs) (w ∷ ws) = ltb x (256 ^ w) && fit xs ws
+unfoldable pub fitWidths : List ℕ → List ℕ → Bool
+fitWidths [] ws = true
+fitWidths (x ∷ xs) [] = true
+fitWidths (x ∷ xs) (w ∷ ws) = ltb x (256 ^ w) && fitWidths xs ws
 
 -- 02: "13 an unknown kind, 30 a field too large for its bytes or not 0 where the kind has none"; "13 before 30"
 unfoldable pub rowRefusal : List ℕ → ℕ
-rowRefusal r = firstOf (13 when eqb (lengthOf (field r 0)) 0 ∷ 30 when not (fit (drop 1 r) (widths (field r 0))) ∷ [])
+rowRefusal r = firstOf (13 when eqb (lengthOf (field r 0)) 0 ∷ 30 when not (fitWidths (drop 1 r) (widths (field r 0))) ∷ [])
 
 -- 02: "the first bad event decides"
 unfoldable pub firstBad : List (List ℕ) → ℕ

@@ -2,7 +2,7 @@
 ghost use Prim.Native.Nat.{_<_};
 ghost use mathlib.Core.Path.{_≡_};
 ghost use lib.ListN.{length};
-ghost use Rattle.notation.specs.Hex.{charAt, worth, isControl, isBlank, inComment, byteOf, markOf, markAt, openingOf};
+ghost use Rattle.notation.specs.Hex.{charAt, hexWorth, isControl, isBlank, inComment, byteOf, markOf, markAt, openingOf};
 use notation::Mark;
 
 // 0 past the end of the text
@@ -16,7 +16,7 @@ fn char_at(text: &[u8], at: usize) -> u8
 }
 
 fn worth_of(c: u8) -> u8
-    ensures { λ r. ⌜ r ≡ worth c ⌝ }
+    ensures { λ r. ⌜ r ≡ hexWorth c ⌝ }
 {
     if (48 <= c) & (c <= 57) {
         return c - 48;

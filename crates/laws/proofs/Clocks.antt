@@ -1,5 +1,5 @@
 -- An accepted clock: when it moves values, and what it then leaves, in the words of the rules.
---   Ran s n o    the outcome o of an event that moves n of the values stored in s
+--   ClockRan s n o   the outcome o of an event that moves n of the values stored in s
 use Prim.Native.Nat.{ℕ, zero, suc, _≤_, _<_}
 use mathlib.Core.Path.{_≡_, refl, ap, _∙_}
 use mathlib.Core.Logic.{⊎-elim}
@@ -117,7 +117,7 @@ module _ (s : State) (sound : Sound (s .board)) where
 -- ---- What is left
 
 -- the answer, the stored values and their places, and the core with the three parts put anew that `moves` touches
-pub record Ran (s : State) (n : ℕ) (o : Outcome) : Type 0 where
+pub record ClockRan (s : State) (n : ℕ) (o : Outcome) : Type 0 where
   pub moved : o .answer .moved ≡ n
   pub lists : stored (o .state) ≡ onList (outgoing (s .board .core) n) (stored s)
   pub places : placeOf (o .state) ≡ place (depth (s .board)) (outgoing (s .board .core) n) (placeOf s)
@@ -132,7 +132,7 @@ pub record Ran (s : State) (n : ℕ) (o : Outcome) : Type 0 where
       }) (s .board .core)))
 
 moves-ran : (s : State) (x : Signal) (n : ℕ) → zero < n → Kept s (signal x) → played s (signal x) ≡ moves (s .board .core) (stored s) n
-    → Ran s n (done s (signal x))
+    → ClockRan s n (done s (signal x))
 unfolding done boardBefore moves sizeAfter
 moves-ran s x zero l k p = absurd (not-suc-le-zero l)
 moves-ran s x (suc n) l k p =
@@ -144,7 +144,7 @@ moves-ran s x (suc n) l k p =
       core = ap (λ (x : Play). x .core) p;
     }
 
-pub clock-ran : (s : State) (x : Signal) → refusal s (signal x) ≡ 0 → Clocked x (s .board) → ReadyToMove s → Ran s (groupSize (s .board)) (step s (signal x))
+pub clock-ran : (s : State) (x : Signal) → refusal s (signal x) ≡ 0 → Clocked x (s .board) → ReadyToMove s → ClockRan s (groupSize (s .board)) (step s (signal x))
 clock-ran s x z a h =
     let st = refusal-stands s (signal x) tt z in
     rw (step-done s (signal x) z)

@@ -13,7 +13,7 @@ use Rattle.laws.specs.Types.{Core, Lost, Event, powerUp, write, read, si
 use Rattle.rules.specs.Bits.{bit}
 use Rattle.rules.specs.Record.{State, activeSize, depth, stored, valueSpan}
 use Rattle.rules.specs.Parts.{withLost}
-use Rattle.rules.specs.Clocks.{Op, keep, store, Fate, none, stored as storedFate, lostToFull, lostToClosed, fateNumber, Play, closed, moving, moves, clock, tickAccepted, clockAccepted, onTick, onOutside, onTrigger}
+use Rattle.rules.specs.Clocks.{Op, keep, store, Fate, none, wasStored, lostToFull, lostToClosed, fateNumber, Play, closed, moving, moves, clock, tickAccepted, clockAccepted, onTick, onOutside, onTrigger}
 use Rattle.rules.specs.Flags.{isFull}
 use Rattle.rules.specs.Writes.{writeControl, writeMask, writeRate, writeAdjust, bufferOf, tried, writeBuffer, writeData, onWrite}
 use Rattle.rules.specs.Play.{calibrationEnds, settles, onSignal, play}
@@ -49,7 +49,7 @@ module _ (s : State) (v : ℕ) where
   lostPlay f x y = record { core = withLost (record { full = x; closed = y }) (s .board .core); op = keep; moved = 0; fate = f }
 
   abbrev storedPlay : Play
-  storedPlay = record { core = s .board .core; op = store (v % valueSpan); moved = 0; fate = storedFate }
+  storedPlay = record { core = s .board .core; op = store (v % valueSpan); moved = 0; fate = wasStored }
 
   played-closed : closed (s .board .core) ≡ true → played s (write 0x18 v) ≡ lostPlay lostToClosed (s .board .core .lost .full) true
   unfolding play onWrite writeData

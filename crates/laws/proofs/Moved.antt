@@ -30,7 +30,7 @@ use Rattle.rules.proofs.Nothing.{only-nothing}
 use Rattle.rules.proofs.Refusals.{refusal-stands}
 use Rattle.laws.proofs.Targets.{targets-group, targets-ascending, targets-below, targets-length}
 use Rattle.laws.proofs.Levels.{coded-coding, laid-hold, laid-given}
-use Rattle.laws.proofs.Clocks.{outgoing-open, outgoing-closed, unready-plays, Ran, clock-ran}
+use Rattle.laws.proofs.Clocks.{outgoing-open, outgoing-closed, unready-plays, ClockRan, clock-ran}
 
 -- ---- A clock that is not ready to move
 
@@ -46,7 +46,7 @@ cursor-single c e = rw e
 
 -- the i-th target's level after a clock
 level-given : (s : State) (o : Outcome) → Sound (s .board) → length (s .board .core .outputs .levels) ≡ 20 → ReadyToMove s
-    → Ran s (groupSize (s .board)) o → (i : ℕ) → i < groupSize (s .board)
+    → ClockRan s (groupSize (s .board)) o → (i : ℕ) → i < groupSize (s .board)
     → levelAt (o .state) (getD (targets (s .board .core)) i 0) ≡ coded (s .board .core .control .binary) (getD (stored s) i 0)
 level-given s o sound twenty h r i l =
     let c = s .board .core in

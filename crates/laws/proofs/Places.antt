@@ -93,13 +93,13 @@ Allowed d c (leave k) = k ≤ c
 Allowed d c (recirculate k) = k ≤ c
 
 -- each entry stays, or is anew and of 17 bits
-abbrev pub Written : List ℕ → List ℕ → Type 0
-Written m m′ = (i : ℕ) → (getD m′ i 0 ≡ getD m i 0) ⊎ (getD m′ i 0 < valueSpan)
+abbrev pub StaysOrNew : List ℕ → List ℕ → Type 0
+StaysOrNew m m′ = (i : ℕ) → (getD m′ i 0 ≡ getD m i 0) ⊎ (getD m′ i 0 < valueSpan)
 
 pub record Same (d : ℕ) (m m′ : List ℕ) : Type 0 where
   pub long : length m′ ≡ length m
   pub above : drop d m′ ≡ drop d m
-  pub written : Written m m′
+  pub written : StaysOrNew m m′
 
 -- what is shown of each operation: the place after it is good, its values are the list l, and the memory changed only where it may
 pub record Placed (d : ℕ) (p p′ : Place) (l : List ℕ) : Type 0 where
@@ -120,7 +120,7 @@ same-trans {d} {l} {m} {n} a b = record { long = b .long ∙ a .long; above = b 
     go i (inl x) (inr y) = inr y
     go i (inr x) (inr y) = inr y
 
-written-set : (m : List ℕ) (j v : ℕ) → j < length m → v < valueSpan → Written m (set m j v)
+written-set : (m : List ℕ) (j v : ℕ) → j < length m → v < valueSpan → StaysOrNew m (set m j v)
 written-set m j v hj hv i = go (ℕ-discrete i j)
   where
     go : Dec (i ≡ j) → (getD (set m j v) i 0 ≡ getD m i 0) ⊎ (getD (set m j v) i 0 < valueSpan)

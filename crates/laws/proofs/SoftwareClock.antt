@@ -28,15 +28,15 @@ use Rattle.rules.proofs.Refusals.{refusal-exactly, refusal-stands}
 
 -- ---- One play that does what two do
 
-record Together (d : ℕ) (q : Place) (both first second : Play) : Type 0 where
+record AsTwo (d : ℕ) (q : Place) (both first second : Play) : Type 0 where
   moved : both .moved ≡ second .moved
   fate : both .fate ≡ second .fate
   core : both .core ≡ second .core
   places : place d (both .op) q ≡ place d (second .op) (place d (first .op) q)
 
 -- an outside clock after a play, on what that leaves
-abbrev clocked : List ℕ → Play → Play
-clocked buf p = onOutside (p .core) (onList (p .op) buf)
+abbrev thenClock : List ℕ → Play → Play
+thenClock buf p = onOutside (p .core) (onList (p .op) buf)
 
 -- a clock that finds nothing stored
 outside-empty : (c : Core) → onOutside c [] ≡ only c
@@ -74,14 +74,14 @@ module _ (c : Core) (buf : List ℕ) (v : ℕ) (z : bit 7 v ≡ false) where
   unfolding writeBuffer tried
   without-clock = rw z
 
-  either-together : (d : ℕ) (q : Place) (d11 : Bool)
-      → Together d q (emptiedOr (onOutside (bufferOf v c) buf) d11) (emptiedOr (only (bufferOf v c)) d11) (clocked buf (emptiedOr (only (bufferOf v c)) d11))
+  either-as-two : (d : ℕ) (q : Place) (d11 : Bool)
+      → AsTwo d q (emptiedOr (onOutside (bufferOf v c) buf) d11) (emptiedOr (only (bufferOf v c)) d11) (thenClock buf (emptiedOr (only (bufferOf v c)) d11))
   unfolding place onList
-  either-together d q true = rw (outside-empty (bufferOf v c)) (record { moved = refl; fate = refl; core = refl; places = refl })
-  either-together d q false = record { moved = refl; fate = refl; core = refl; places = refl }
+  either-as-two d q true = rw (outside-empty (bufferOf v c)) (record { moved = refl; fate = refl; core = refl; places = refl })
+  either-as-two d q false = record { moved = refl; fate = refl; core = refl; places = refl }
 
-  write-together : (d : ℕ) (q : Place) → Together d q (writeBuffer c buf (v + 0x80)) (writeBuffer c buf v) (clocked buf (writeBuffer c buf v))
-  write-together d q = rw (with-clock, without-clock) (either-together d q (bit 11 v))
+  write-as-two : (d : ℕ) (q : Place) → AsTwo d q (writeBuffer c buf (v + 0x80)) (writeBuffer c buf v) (thenClock buf (writeBuffer c buf v))
+  write-as-two d q = rw (with-clock, without-clock) (either-as-two d q (bit 11 v))
 
 -- ---- The write, and the clock after it
 
@@ -93,14 +93,14 @@ write-open s v h = h
 clock-open : (s : State) (e : Event) → Ordinary e → Stands s → refusal ((done s e) .state) (signal outside) ≡ 0
 clock-open s e o st = (refusal-exactly _ (signal outside) 0) .1 (heard aClock (done-stands s e o st))
 
-done-together : (s : State) (v : ℕ) → Stands s → bit 7 v ≡ false
+done-as-two : (s : State) (v : ℕ) → Stands s → bit 7 v ≡ false
     → SameButRequest (done s (write 0x0C (v + 0x80))) (done ((done s (write 0x0C v)) .state) (signal outside))
 unfolding done boardBefore reading play onWrite onSignal sizeAfter codeOf
-done-together s v st z =
+done-as-two s v st z =
     let d : ℕ = depth (s .board) in
     let first : Play = writeBuffer (s .board .core) (stored s) v in
-    let t = write-together (s .board .core) (stored s) v z d (placeOf s) in
-    let r : clocked (stored s) first ≡ played ((done s (write 0x0C v)) .state) (signal outside) =
+    let t = write-as-two (s .board .core) (stored s) v z d (placeOf s) in
+    let r : thenClock (stored s) first ≡ played ((done s (write 0x0C v)) .state) (signal outside) =
     ap (onOutside (first .core)) (sym ((kept s (write 0x0C v) tt (stands-fit s st)) .lists)) in
     let q = t .places ∙ ap (λ (p : Play). place d (p .op) (place d (first .op) (placeOf s))) r in
     let moved = t .moved ∙ ap (λ (p : Play). p .moved) r in
@@ -121,4 +121,4 @@ software-clock s v h z =
       step-done s (write 0x0C (v + 0x80)) h,
       step-done s (write 0x0C v) (write-open s v h),
       step-done _ (signal outside) (clock-open s (write 0x0C v) tt st),
-    ) (done-together s v st z)
+    ) (done-as-two s v st z)

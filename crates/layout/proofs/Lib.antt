@@ -1,5 +1,4 @@
 -- The laws of specs/Laws, and the laws that the functions' proofs share.
 pub mod Stores
-pub mod Levels
+pub mod RowLevels
 pub mod Rows
-pub mod Promises

@@ -9,12 +9,12 @@ use lib.Seq.{ext-getD, getD-drop}
 use Rattle.rules.specs.declared.Board.{Board}
 use Rattle.rules.specs.Bits.{flag}
 use Rattle.rules.specs.Record.{levelSpan}
-use Rattle.layout.specs.Layout.{levelsAt, coreAt, boardAt, rowOf}
+use Rattle.layout.specs.Layout.{levelsAt, coreAt, boardAt, boardRow}
 use Rattle.layout.specs.Laws.{Twenty, Row-length, Round-trip}
-use Rattle.layout.proofs.Levels.{levels-length, levels-each}
+use Rattle.layout.proofs.RowLevels.{row-levels-length, levels-each}
 
 pub row-length : Row-length
-unfolding rowOf
+unfolding boardRow
 row-length b h = rw h
 
 flag-on : (t : Bool) → not (eqb (flag t) 0) ≡ t
@@ -22,15 +22,15 @@ unfolding flag
 flag-on true = refl
 flag-on false = refl
 
-levels-again : (b : Board) → Twenty (b .core .outputs .levels) → levelsAt (rowOf b) ≡ b .core .outputs .levels
-unfolding rowOf
+levels-again : (b : Board) → Twenty (b .core .outputs .levels) → levelsAt (boardRow b) ≡ b .core .outputs .levels
+unfolding boardRow
 levels-again b h =
-    let row = rowOf b in
-    let twenty = levels-length row (row-length b (h .long)) in
+    let row = boardRow b in
+    let twenty = row-levels-length row (row-length b (h .long)) in
     ext-getD 0 (levelsAt row) (b .core .outputs .levels) (twenty ∙ sym (h .long)) (λ i l.
     let below : i < 20 = omega arith in
     levels-each row i below ∙ ap (λ (x : ℕ). x % levelSpan) (sym (getD-drop 35 row i 0)) ∙ mod-eq-of-lt (h .low i below))
 
 pub round-trip : Round-trip
-unfolding boardAt coreAt rowOf
+unfolding boardAt coreAt boardRow
 round-trip b h = simp (flag-on, levels-again b h)

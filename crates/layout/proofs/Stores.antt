@@ -9,19 +9,19 @@ use lib.ListN.{length, getD, drop, take, set, drop-of-length-le}
 use lib.Seq.{sets, sets-eq, paste, paste-zero, paste-suc, length-paste, take-length}
 
 -- the invariant: row′ is `row` with the first i entries of `part` stored from the entry `at` on
-pub record Stored (row : List ℕ) (at : ℕ) (part : List ℕ) (i : ℕ) (row′ : List ℕ) : Type 0 where
+pub record Stores (row : List ℕ) (at : ℕ) (part : List ℕ) (i : ℕ) (row′ : List ℕ) : Type 0 where
   pub fits : at + length part ≤ length row
   pub most : i ≤ length part
   pub so-far : row′ ≡ paste row at part i
 
-pub stored-none : (row : List ℕ) (at : ℕ) (part : List ℕ) → at + length part ≤ length row → Stored row at part 0 row
+pub stored-none : (row : List ℕ) (at : ℕ) (part : List ℕ) → at + length part ≤ length row → Stores row at part 0 row
 stored-none row at part h = record { fits = h; most = omega arith; so-far = paste-zero row at part }
 
-module _ {row : List ℕ} {at : ℕ} {part : List ℕ} {i : ℕ} {row′ : List ℕ} (h : Stored row at part i row′) where
+module _ {row : List ℕ} {at : ℕ} {part : List ℕ} {i : ℕ} {row′ : List ℕ} (h : Stores row at part i row′) where
   pub stored-length : length row′ ≡ length row
   stored-length = ap length (h .so-far) ∙ length-paste row at part i (omega arith) (h .most)
 
-  pub stored-next : i < length part → (v : ℕ) → v ≡ getD part i 0 → Stored row at part (i + 1) (set row′ (at + i) v)
+  pub stored-next : i < length part → (v : ℕ) → v ≡ getD part i 0 → Stores row at part (i + 1) (set row′ (at + i) v)
   stored-next l v e =
       record { fits = h .fits; most = omega arith; so-far = rw (h .so-far, e, add-one i) (paste-suc row at part i 0 (omega arith) l) }
 

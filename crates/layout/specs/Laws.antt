@@ -1,14 +1,11 @@
--- The row once more, in other words than the definitions, and that the promise leaves no choice. Proofs are in proofs/.
+-- The row once more, in other words than the definitions. Proofs are in proofs/.
 use Prim.Native.Nat.{ℕ, _<_}
 use mathlib.Core.Path.{_≡_}
 use mathlib.Core.List.{List}
 use lib.ListN.{length, getD}
 use Rattle.rules.specs.declared.Board.{Board}
 use Rattle.rules.specs.Record.{levelSpan}
-use Rattle.layout.specs.Layout.{boardAt, rowOf}
-use Rattle.layout.specs.Promises.{Told}
-
--- ---- The row
+use Rattle.layout.specs.Layout.{boardAt, boardRow}
 
 -- any record that the code can hold has these levels
 pub record Twenty (levels : List ℕ) : Type 0 where
@@ -16,13 +13,8 @@ pub record Twenty (levels : List ℕ) : Type 0 where
   pub low : (i : ℕ) → i < 20 → getD levels i 0 < levelSpan
 
 abbrev pub Row-length : Type 0
-Row-length = (b : Board) → length (b .core .outputs .levels) ≡ 20 → length (rowOf b) ≡ 55
+Row-length = (b : Board) → length (b .core .outputs .levels) ≡ 20 → length (boardRow b) ≡ 55
 
 -- what is written is read back
 abbrev pub Round-trip : Type 0
-Round-trip = (b : Board) → Twenty (b .core .outputs .levels) → boardAt (rowOf b) ≡ b
-
--- ---- The promise: any two outcomes that it allows are equal
-
-abbrev pub Told-one : Type 0
-Told-one = (row : List ℕ) (r r′ : Board) → Told row r → Told row r′ → r ≡ r′
+Round-trip = (b : Board) → Twenty (b .core .outputs .levels) → boardAt (boardRow b) ≡ b

@@ -1,6 +1,6 @@
 -- A board record as a row of 55 numbers. A bool is 0 or 1; read from a row, any number but 0 is true, and a level is taken modulo 10000h.
 --   boardAt row   the record that a row says
---   rowOf b       the row of a record
+--   boardRow b    the row of a record
 use Prim.Native.Nat.{ℕ, _%_}
 use mathlib.Core.Bool.{Bool, not, cond}
 use mathlib.Core.List.{List, _∷_, map}
@@ -23,8 +23,8 @@ use Rattle.rules.specs.Record.{levelSpan, unpowered}
 abbrev pub at : List ℕ → ℕ → ℕ
 at row i = getD row i 0
 
-abbrev pub on : List ℕ → ℕ → Bool
-on row i = not (eqb (at row i) 0)
+abbrev pub isOn : List ℕ → ℕ → Bool
+isOn row i = not (eqb (at row i) 0)
 
 -- ---- Reading, part by part
 
@@ -37,32 +37,32 @@ sizeAt row = record { fitted = at row 5; code = at row 6 }
 abbrev pub controlAt : List ℕ → Control
 controlAt row =
     record {
-      bursts = on row 7;
-      ground = on row 8;
-      binary = on row 9;
-      differential = on row 10;
-      barred = on row 11;
-      simultaneous = on row 12;
+      bursts = isOn row 7;
+      ground = isOn row 8;
+      binary = isOn row 9;
+      differential = isOn row 10;
+      barred = isOn row 11;
+      simultaneous = isOn row 12;
       selection = at row 13;
     }
 
 abbrev pub modeAt : List ℕ → Mode
-modeAt row = record { external = on row 14; enabled = on row 15; circular = on row 16 }
+modeAt row = record { external = isOn row 14; enabled = isOn row 15; circular = isOn row 16 }
 
 abbrev pub calibrationAt : List ℕ → Calibration
-calibrationAt row = record { running = on row 17; failed = on row 18; calibrated = on row 19 }
+calibrationAt row = record { running = isOn row 17; failed = isOn row 18; calibrated = isOn row 19 }
 
 abbrev pub clockAt : List ℕ → Clock
-clockAt row = record { divisor = at row 20; nclk = at row 21; alt = on row 22; settling = on row 23 }
+clockAt row = record { divisor = at row 20; nclk = at row 21; alt = isOn row 22; settling = isOn row 23 }
 
 abbrev pub burstAt : List ℕ → Burst
-burstAt row = record { running = on row 24; software = on row 25 }
+burstAt row = record { running = isOn row 24; software = isOn row 25 }
 
 abbrev pub loadAt : List ℕ → Load
-loadAt row = record { pending = on row 26; opened = on row 27 }
+loadAt row = record { pending = isOn row 26; opened = isOn row 27 }
 
 abbrev pub lostAt : List ℕ → Lost
-lostAt row = record { full = on row 28; closed = on row 29 }
+lostAt row = record { full = isOn row 28; closed = isOn row 29 }
 
 unfoldable pub levelsAt : List ℕ → List ℕ
 levelsAt row = map (λ (x : ℕ). x % levelSpan) (take 20 (drop 35 row))
@@ -70,7 +70,7 @@ levelsAt row = map (λ (x : ℕ). x % levelSpan) (take 20 (drop 35 row))
 unfoldable pub coreAt : List ℕ → Core
 coreAt row =
     record {
-      powered = on row 0;
+      powered = isOn row 0;
       options = optionsAt row;
       control = controlAt row;
       mode = modeAt row;
@@ -87,14 +87,14 @@ boardAt row =
     record {
       core = coreAt row;
       size = sizeAt row;
-      request = on row 32;
+      request = isOn row 32;
       ring = record { first = at row 33; count = at row 34 };
     }
 
 -- ---- Writing
 
-unfoldable pub rowOf : Board → List ℕ
-rowOf b =
+unfoldable pub boardRow : Board → List ℕ
+boardRow b =
     let c = b .core in
     flag (c .powered) ∷ c .options .range ∷ c .options .filter ∷ c .options .kit ∷ c .options .firmware
     ∷ b .size .fitted ∷ b .size .code

@@ -1,8 +1,8 @@
 // A board record as a row of 55 numbers, for hosts in other languages: read from a row. Crate `rows` writes one.
 ghost use mathlib.Core.Path.{_≡_};
 ghost use lib.ListN.{length};
-ghost use Rattle.layout.specs.Layout.{optionsAt, sizeAt, controlAt, modeAt, calibrationAt, clockAt, burstAt, loadAt, lostAt, levelsAt, coreAt, boardAt};
-ghost use Rattle.layout.specs.Promises.{Told};
+ghost use Rattle.rules.specs.Told.{Told};
+ghost use Rattle.layout.specs.Layout.{optionsAt, sizeAt, controlAt, modeAt, calibrationAt, clockAt, burstAt, loadAt, lostAt, levelsAt, coreAt, boardAt, toldOf};
 use rules::Board;
 use rules::Burst;
 use rules::Calibration;
@@ -153,7 +153,7 @@ fn core_at(row: &[u32]) -> Core
     }
 }
 
-fn record_at(row: &[u32]) -> Board
+fn board_in(row: &[u32]) -> Board
     requires { ⌜ length (now row) ≡ 55 ⌝ }
     ensures { λ r. ⌜ r ≡ boardAt (now (row .entry)) ⌝ }
 {
@@ -170,11 +170,11 @@ fn record_at(row: &[u32]) -> Board
 
 // A row of another length is not understood, and reads as a row of zeros does: as the unpowered record.
 pub fn board_at(row: &[u32]) -> Board
-    ensures { λ r. ⌜ Told (now (row .entry)) r ⌝ }
+    ensures { λ r. ⌜ Told (toldOf (now (row .entry))) r ⌝ }
 {
     if row.len() == 55 {
-        return record_at(row);
+        return board_in(row);
     }
     let zeros = [0u32; 55];
-    record_at(&zeros)
+    board_in(&zeros)
 }

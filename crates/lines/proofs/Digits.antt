@@ -21,10 +21,10 @@ low-pair n =
     λ i. digit (tens i) ∷ digit (ones i) ∷ []
 
 -- the last four digits
-abbrev four : ℕ → List ℕ
-four n = digit (n / 10 / 10 / 10 % 10) ∷ digit (n / 10 / 10 % 10) ∷ digit (n / 10 % 10) ∷ digit (n % 10) ∷ []
+abbrev fourDigits : ℕ → List ℕ
+fourDigits n = digit (n / 10 / 10 / 10 % 10) ∷ digit (n / 10 / 10 % 10) ∷ digit (n / 10 % 10) ∷ digit (n % 10) ∷ []
 
-pub two-pairs : (n : ℕ) → pair (n / 100 % 100) ++ pair (low n) ≡ four n
+pub two-pairs : (n : ℕ) → pair (n / 100 % 100) ++ pair (low n) ≡ fourDigits n
 two-pairs n =
     let thousands : n / 100 % 100 / 10 ≡ n / 10 / 10 / 10 % 10 = omega arith in
     let hundreds : n / 100 % 100 % 10 ≡ n / 10 / 10 % 10 = omega arith in

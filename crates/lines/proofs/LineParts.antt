@@ -23,24 +23,24 @@ rest-joined x moved fate count =
     ∙ ap (λ (y : List ℕ). (y ++ c) ++ newline ∷ []) (sym (append-assoc x m f))
 
 -- " 0 00000000"
-abbrev zeros : List ℕ
-zeros = 32 ∷ 48 ∷ 32 ∷ 48 ∷ 48 ∷ 48 ∷ 48 ∷ 48 ∷ 48 ∷ 48 ∷ 48 ∷ []
+abbrev zeroFields : List ℕ
+zeroFields = 32 ∷ 48 ∷ 32 ∷ 48 ∷ 48 ∷ 48 ∷ 48 ∷ 48 ∷ 48 ∷ 48 ∷ 48 ∷ []
 
-zeros-joined : (x : List ℕ) → x ++ zeros ≡ x ++ space ∷ decimal 0 ++ space ∷ hex 8 0
+zeros-joined : (x : List ℕ) → x ++ zeroFields ≡ x ++ space ∷ decimal 0 ++ space ∷ hex 8 0
 unfolding hex decimalIn
 zeros-joined x = sym (append-assoc x (space ∷ decimal 0) (space ∷ hex 8 0))
 
 -- a line to its register
-abbrev front : ℕ → Answer → List ℕ
-front number a = decimal number ++ space ∷ decimal (a .refusal) ++ space ∷ hex 8 (a .register)
+abbrev toRegister : ℕ → Answer → List ℕ
+toRegister number a = decimal number ++ space ∷ decimal (a .refusal) ++ space ∷ hex 8 (a .register)
 
 module _ {o o1 o2 : List ℕ} {at p q : ℕ} (number : ℕ) where
   joined : (a : Answer) (count : ℕ)
-      → Piece o at (front number a) o1 p
+      → Piece o at (toRegister number a) o1 p
       → Piece o1 p (rest (a .moved) (a .fate) count) o2 q
       → Piece o at (line number a count) o2 q
   unfolding line
-  joined a count x y = renamed (rest-joined (front number a) (a .moved) (a .fate) count) (then x y)
+  joined a count x y = renamed (rest-joined (toRegister number a) (a .moved) (a .fate) count) (then x y)
 
   pub line-joined : {o3 o4 o5 : List ℕ} {r s t : ℕ} (a : Answer) (count : ℕ)
       → Piece o at (decimal number) o3 r
@@ -53,7 +53,7 @@ module _ {o o1 o2 : List ℕ} {at p q : ℕ} (number : ℕ) where
 
   pub done-joined : {o3 : List ℕ} {r : ℕ} (moved fate count : ℕ)
       → Piece o at (decimal number) o3 r
-      → Piece o3 r zeros o1 p
+      → Piece o3 r zeroFields o1 p
       → Piece o1 p (rest moved fate count) o2 q
       → Piece o at (line number (record { refusal = 0; register = 0; moved = moved; fate = fate }) count) o2 q
   done-joined moved fate count x z y = joined _ count (renamed (zeros-joined (decimal number)) (then x z)) y

@@ -1,4 +1,4 @@
--- The promise of the public functions, by what `fits` answered: a piece where there is room, and where there is none nothing.
+-- The promise of the public functions, by what `has_room` answered: a piece where there is room, and where there is none nothing.
 use Prim.Native.Nat.{ℕ, _+_, _≤_}
 use mathlib.Core.Path.{_≡_, sym, _∙_}
 use mathlib.Core.Bool.{Bool, true, false, not}

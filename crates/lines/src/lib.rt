@@ -4,7 +4,7 @@ ghost use lib.ListN.{length};
 ghost use Rattle.text.specs.Text.{line, tail};
 ghost use Rattle.lines.specs.Promises.{Printed};
 use crate::pieces::put_bytes;
-use crate::whole::fits;
+use crate::whole::has_room;
 use crate::whole::write_done;
 use crate::whole::write_line;
 use crate::whole::write_tail;
@@ -17,7 +17,7 @@ mod whole;
 pub fn put_text(out: &mut [u8], at: usize, text: &[u8]) -> usize
     ensures { λ r. ⌜ Printed (length (now (text .entry))) (now (out .entry)) at (now (text .entry)) (now (out .exit)) r ⌝ }
 {
-    if !fits(out.len(), at, text.len()) {
+    if !has_room(out.len(), at, text.len()) {
         return at;
     }
     put_bytes(out, at, text)
@@ -27,7 +27,7 @@ pub fn put_text(out: &mut [u8], at: usize, text: &[u8]) -> usize
 pub fn put_line(out: &mut [u8], at: usize, number: u32, a: Answer, count: u32) -> usize
     ensures { λ r. ⌜ Printed 64 (now (out .entry)) at (line number a count) (now (out .exit)) r ⌝ }
 {
-    if !fits(out.len(), at, 64) {
+    if !has_room(out.len(), at, 64) {
         return at;
     }
     write_line(out, at, number, a, count)
@@ -37,7 +37,7 @@ pub fn put_line(out: &mut [u8], at: usize, number: u32, a: Answer, count: u32) -
 pub fn put_done(out: &mut [u8], at: usize, number: u32, moved: u32, fate: u32, count: u32) -> usize
     ensures { λ r. ⌜ Printed 64 (now (out .entry)) at (line number (record { refusal = 0; register = 0; moved = moved; fate = fate }) count) (now (out .exit)) r ⌝ }
 {
-    if !fits(out.len(), at, 64) {
+    if !has_room(out.len(), at, 64) {
         return at;
     }
     write_done(out, at, number, moved, fate, count)
@@ -47,7 +47,7 @@ pub fn put_done(out: &mut [u8], at: usize, number: u32, moved: u32, fate: u32, c
 pub fn put_tail(out: &mut [u8], at: usize, n: u32, p: u32, levels: [u16; 20]) -> usize
     ensures { λ r. ⌜ Printed 134 (now (out .entry)) at (tail n p levels) (now (out .exit)) r ⌝ }
 {
-    if !fits(out.len(), at, 134) {
+    if !has_room(out.len(), at, 134) {
         return at;
     }
     write_tail(out, at, n, p, levels)

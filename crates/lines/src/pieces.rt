@@ -37,7 +37,7 @@ pub(crate) fn capital_of(d: u32) -> u8
 }
 
 // A number of one digit.
-pub(crate) fn put_one(out: &mut [u8], at: usize, n: u32) -> usize
+pub(crate) fn put_digit(out: &mut [u8], at: usize, n: u32) -> usize
     requires { ⌜ (at < length (now out)) × (n < 10) ⌝ }
     ensures { λ r. ⌜ Piece (now (out .entry)) at (digit n ∷ []) (now (out .exit)) r ⌝ }
 {
@@ -45,13 +45,13 @@ pub(crate) fn put_one(out: &mut [u8], at: usize, n: u32) -> usize
 }
 
 // A number of at most two digits, in two.
-pub(crate) fn put_two(out: &mut [u8], at: usize, n: u32) -> usize
+pub(crate) fn put_two_digits(out: &mut [u8], at: usize, n: u32) -> usize
     requires { ⌜ (at + 2 ≤ length (now out)) × (n < 100) ⌝ }
     ensures { λ r. ⌜ Piece (now (out .entry)) at (digit (n / 10) ∷ digit (n % 10) ∷ []) (now (out .exit)) r ⌝ }
 {
     let q = n / 10;
-    let p = put_one(out, at, q);
-    put_one(out, p, n - 10 * q)
+    let p = put_digit(out, at, q);
+    put_digit(out, p, n - 10 * q)
 }
 
 // The last hexadecimal digit of n.
@@ -88,13 +88,13 @@ pub(crate) fn put_register(out: &mut [u8], at: usize, n: u32) -> usize
 }
 
 // The last four digits of n.
-pub(crate) fn put_four(out: &mut [u8], at: usize, n: u32) -> usize
+pub(crate) fn put_four_digits(out: &mut [u8], at: usize, n: u32) -> usize
     requires { ⌜ at + 4 ≤ length (now out) ⌝ }
     ensures { λ r. ⌜ Piece (now (out .entry)) at (digit (n / 10 / 10 / 10 % 10) ∷ digit (n / 10 / 10 % 10) ∷ digit (n / 10 % 10) ∷ digit (n % 10) ∷ []) (now (out .exit)) r ⌝ }
 {
     let high = n / 100;
-    let p = put_two(out, at, high % 100);
-    put_two(out, p, n - 100 * high)
+    let p = put_two_digits(out, at, high % 100);
+    put_two_digits(out, p, n - 100 * high)
 }
 
 // A number of at most two digits.
@@ -103,9 +103,9 @@ pub(crate) fn put_tens(out: &mut [u8], at: usize, n: u32) -> usize
     ensures { λ r. ⌜ Piece (now (out .entry)) at (decimalIn 1 n) (now (out .exit)) r ⌝ }
 {
     if n < 10 {
-        return put_one(out, at, n);
+        return put_digit(out, at, n);
     }
-    put_two(out, at, n)
+    put_two_digits(out, at, n)
 }
 
 // A number of at most four digits.
@@ -118,7 +118,7 @@ pub(crate) fn put_small(out: &mut [u8], at: usize, n: u32) -> usize
     }
     let high = n / 100;
     let p = put_tens(out, at, high);
-    put_two(out, p, n - 100 * high)
+    put_two_digits(out, p, n - 100 * high)
 }
 
 // A number of at most six digits.
@@ -130,7 +130,7 @@ pub(crate) fn put_middle(out: &mut [u8], at: usize, n: u32) -> usize
         return put_small(out, at, n);
     }
     let p = put_tens(out, at, n / 10000);
-    put_four(out, p, n)
+    put_four_digits(out, p, n)
 }
 
 // A number that mostly has more than one digit, four at a time: ten are two, four and four.
@@ -142,7 +142,7 @@ pub(crate) fn put_long(out: &mut [u8], at: usize, n: u32) -> usize
         return put_small(out, at, n);
     }
     let p = put_middle(out, at, n / 10000);
-    put_four(out, p, n)
+    put_four_digits(out, p, n)
 }
 
 // A number that mostly has one digit: short, so that it is compiled into its callers.
@@ -151,7 +151,7 @@ pub(crate) fn put_decimal(out: &mut [u8], at: usize, n: u32) -> usize
     ensures { λ r. ⌜ Piece (now (out .entry)) at (decimal n) (now (out .exit)) r ⌝ }
 {
     if n < 10 {
-        return put_one(out, at, n);
+        return put_digit(out, at, n);
     }
     put_long(out, at, n)
 }

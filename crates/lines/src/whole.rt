@@ -16,7 +16,7 @@ use crate::pieces::put_register;
 use rules::Answer;
 
 // Whether an output of this length has n bytes from a place on.
-pub(crate) fn fits(length: usize, at: usize, n: usize) -> bool
+pub(crate) fn has_room(length: usize, at: usize, n: usize) -> bool
     ensures { λ r. ⌜ r ≡ leb (at + n) length ⌝ }
 {
     if length < n {

@@ -15,7 +15,7 @@ use Rattle.rules.specs.declared.Core.{Core}
 use Rattle.rules.specs.declared.Board.{Board}
 use Rattle.rules.specs.Record.{State, valueSpan, depthOf, depth, activeSize, stored}
 use Rattle.rules.specs.Clocks.{Play, store, fateNumber, closed, tickAccepted, clock, onTick}
-use Rattle.rules.specs.Clocks.{stored as storedFate}
+use Rattle.rules.specs.Clocks.{wasStored}
 use Rattle.rules.specs.Flags.{isFull}
 use Rattle.rules.specs.Writes.{writeData, onWrite}
 use Rattle.rules.specs.Play.{onSignal, play}
@@ -33,16 +33,16 @@ use Rattle.rules.proofs.Refusals.{refusal-exactly, refusal-stands}
 use Rattle.moves.specs.declared.Played.{Played}
 use Rattle.moves.specs.declared.Stored.{Stored}
 use Rattle.moves.specs.Ready.{Ready}
-use Rattle.moves.specs.Does.{Does, placeOf, listed}
-use Rattle.moves.specs.Promises.{lent, Loaded}
-use Rattle.moves.proofs.Entries.{load-whole}
+use Rattle.moves.specs.Does.{Does, ringPlace, ringValues}
+use Rattle.moves.specs.Promises.{withLevels, LoadsOne}
+use Rattle.moves.proofs.Tested.{load-whole}
 use Rattle.board.specs.Promises.{Stepped}
 use Rattle.board.proofs.Standing.{stands-ready}
 use Rattle.board.proofs.Whole.{done-stepped}
 use Rattle.run.specs.declared.Ahead.{Ahead}
 use Rattle.run.specs.declared.Ahead.the-variants.{Found, Over}
 use Rattle.listing.specs.declared.shortcuts.Common.{Common}
-use Rattle.listing.specs.Shortcuts.{commonEvent, nothing, commonOf, takes, ticks, quick, boardWith, InRun}
+use Rattle.listing.specs.Shortcuts.{commonEvent, uncommon, commonOf, takes, ticks, quick, boardWith, InRun}
 
 -- ---- The states of a run
 
@@ -149,7 +149,7 @@ unfolding activeSize depthOf
 size-whole b h = rw (min-eq-right h)
 
 abbrev stays : Core → ℕ → Play
-stays c v = record { core = c; op = store (v % valueSpan); moved = 0; fate = storedFate }
+stays c v = record { core = c; op = store (v % valueSpan); moved = 0; fate = wasStored }
 
 load-written : (c : Core) (full : Bool) (v : ℕ) → closed c ≡ false → full ≡ false → writeData c full v ≡ stays c v
 unfolding writeData
@@ -163,7 +163,7 @@ load-played s v h k = load-written (s .board .core) _ v h k
 module _ (s : State) (d v : ℕ) (st : Stands s) (e : d ≡ depth (s .board)) (t : takes (s .board) d ≡ true) where
   -- r is what `load` told of a core that takes it too
   pub stored-stepped : (c : Core) (r : Stored) (m′ : List ℕ) → closed c ≡ closed (s .board .core)
-      → Loaded c d (s .board .ring) d v (s .memory) r m′
+      → LoadsOne c d (s .board .ring) d v (s .memory) r m′
       → Stepped (s .board) (s .memory) (Write 0x18 v)
       (record {
         answer = record { refusal = 0; register = 0; moved = 0; fate = r .fate };
@@ -180,8 +180,8 @@ module _ (s : State) (d v : ℕ) (st : Stands s) (e : d ≡ depth (s .board)) (t
         core = refl;
         moved = refl;
         fate = l .fate ∙ ap (λ (q : Play). fateNumber (q .fate)) y;
-        ring = l .ring ∙ ap (λ (q : Play). (place d (q .op) (placeOf (s .board .ring) (s .memory))) .ring) y;
-        memory = l .memory ∙ ap (λ (q : Play). (place d (q .op) (placeOf (s .board .ring) (s .memory))) .memory) y;
+        ring = l .ring ∙ ap (λ (q : Play). (place d (q .op) (ringPlace (s .board .ring) (s .memory))) .ring) y;
+        memory = l .memory ∙ ap (λ (q : Play). (place d (q .op) (ringPlace (s .board .ring) (s .memory))) .memory) y;
       } in
       let size : isFull (s .board .size) (s .board .ring .count) ≡ false = ap (λ (n : ℕ). leb n (s .board .ring .count)) (size-whole (s .board) (w .whole) ∙ sym e) ∙ full in
       let n = (refusal-exactly s (Write 0x18 v) 0) .1
@@ -205,7 +205,7 @@ ticks-says c h =
 
 module _ (s : State) (d : ℕ) (st : Stands s) (e : d ≡ depth (s .board)) (t : ticks (s .board .core) ≡ true) where
   pub ticked-stepped : (p : Played) (m′ : List ℕ) → p .core .control .selection ≡ s .board .core .control .selection
-      → Does d (clock (s .board .core) (listed d (s .board .ring) (s .memory))) (s .board .ring) (s .memory) p m′
+      → Does d (clock (s .board .core) (ringValues d (s .board .ring) (s .memory))) (s .board .ring) (s .memory) p m′
       → Stepped (s .board) (s .memory) (signal Tick)
       (record {
         answer = record { refusal = 0; register = 0; moved = p .moved; fate = p .fate };
@@ -214,7 +214,7 @@ module _ (s : State) (d : ℕ) (st : Stands s) (e : d ≡ depth (s .board)) (t :
   unfolding stored
   ticked-stepped p m′ same x =
       let w = ticks-says (s .board .core) t in
-      let y = subst (λ (k : ℕ). Does k (clock (s .board .core) (listed k (s .board .ring) (s .memory))) (s .board .ring) (s .memory) p m′) e x in
+      let y = subst (λ (k : ℕ). Does k (clock (s .board .core) (ringValues k (s .board .ring) (s .memory))) (s .board .ring) (s .memory) p m′) e x in
       quick-stepped s (signal Tick) p m′ ((refusal-exactly s (signal Tick) 0) .1 (heard aTick st)) (tick-quiet (s .board)) (w .0) (same ∙ w .0)
       (subst (λ (q : Play). Does (depth (s .board)) q (s .board .ring) (s .memory) p m′) (sym (tick-played s (w .1))) y)
 
@@ -223,7 +223,7 @@ pub takes-with : (b : Board) (d : ℕ) (ls : List ℕ) → takes (boardWith b ls
 unfolding takes
 takes-with b d ls = refl
 
-pub ticks-with : (c : Core) (ls : List ℕ) → ticks (lent c ls) ≡ ticks c
+pub ticks-with : (c : Core) (ls : List ℕ) → ticks (withLevels c ls) ≡ ticks c
 unfolding ticks
 ticks-with c ls = refl
 
@@ -235,7 +235,7 @@ unfolding commonEvent
 common-stands (Found (Write o v) c) z = go (eqb o 0x18) refl z
   where
     made : Bool → Common
-    made t = cond t (record { kind = 1; value = v; after = c }) nothing
+    made t = cond t (record { kind = 1; value = v; after = c }) uncommon
 
     go : (t : Bool) → eqb o 0x18 ≡ t → (made t) .kind ≢ 0 → Found (Write o v) c ≡ Found (commonEvent ((made t) .kind) ((made t) .value)) ((made t) .after)
     go true e z = λ i. Found (Write (eqb-true o 0x18 e i) v) c

@@ -12,7 +12,7 @@ use Rattle.files.specs.declared.End.{End}
 use Rattle.files.specs.declared.End.the-variants.{File, Refused}
 use Rattle.files.specs.declared.Item.the-variants.{Over}
 use Rattle.files.specs.File.{Session, verdict}
-use Rattle.files.proofs.Sessions.{Within}
+use Rattle.files.proofs.Sessions.{PlaceInFile}
 use Rattle.text.specs.Text.{line}
 use Rattle.text.specs.Listing.{lines, levelsOf, ending, body}
 
@@ -30,6 +30,6 @@ module _ (k : ℕ) (st : State) where
   body-end z = refl
 
 -- the place of a refusal in a file that is not too long has few digits
-pub in-reach : (s : List ℕ) (z : End) → length s ≤ 65536 → Within s (Over z) → (verdict z) .place < 2 ^ 32
+pub in-reach : (s : List ℕ) (z : End) → length s ≤ 65536 → PlaceInFile s (Over z) → (verdict z) .place < 2 ^ 32
 in-reach s File h w = omega arith
 in-reach s (Refused why p) h w = omega arith

@@ -1,4 +1,4 @@
--- What the loops over a session keep (specs/Desk.antt): from the start they have passed nothing; an event that was played and written is
+-- What the loops over a session keep (specs/Draft.antt): from the start they have passed nothing; an event that was played and written is
 -- passed; and at the end of the file all is written.
 use Prim.Native.Nat.{ℕ, _+_, _≤_}
 use mathlib.Core.Path.{_≡_, refl, sym, subst}
@@ -27,19 +27,19 @@ use Rattle.files.specs.Pieces.{Piece}
 use Rattle.files.proofs.Joined.{then, piece-length}
 use Rattle.text.specs.Listing.{levelsOf, ending}
 use Rattle.listing.specs.Shortcuts.{InRun}
-use Rattle.listing.specs.Desk.{Desk, desk, Page, Writes, Fair, Walked}
+use Rattle.listing.specs.Draft.{Draft, draft, Page, Fills, Fair, Walked}
 use Rattle.listing.proofs.Body.{body-event, body-end}
 use Rattle.listing.proofs.AtOnce.{in-run-step}
 
-pub walked-start : (s : List ℕ) (c : Cursor) (k : Desk) → Fair s c k → Walked s c k c k
+pub walked-start : (s : List ℕ) (c : Cursor) (k : Draft) → Fair s c k → Walked s c k c k
 walked-start s c k f = record { fair = f; way = λ start w. w; nearer = le-refl _ }
 
-pub walked-then : (s : List ℕ) (c : Cursor) (k : Desk) (c1 : Cursor) (k1 : Desk) (c2 : Cursor) (k2 : Desk)
+pub walked-then : (s : List ℕ) (c : Cursor) (k : Draft) (c1 : Cursor) (k1 : Draft) (c2 : Cursor) (k2 : Draft)
     → Walked s c k c1 k1 → Walked s c1 k1 c2 k2 → Walked s c k c2 k2
 walked-then s c k c1 k1 c2 k2 p q =
     record { fair = q .fair; way = λ start w. q .way start (p .way start w); nearer = omega (arith, p .nearer, q .nearer) }
 
-module _ (s : List ℕ) (c : Cursor) (b : Board) (m out : List ℕ) (at number : ℕ) (f : Fair s c (desk b m out at number)) where
+module _ (s : List ℕ) (c : Cursor) (b : Board) (m out : List ℕ) (at number : ℕ) (f : Fair s c (draft b m out at number)) where
   pub tail-room : at + 134 ≤ length out
   tail-room = omega (arith, f .room)
 
@@ -55,15 +55,15 @@ module _ (s : List ℕ) (c : Cursor) (b : Board) (m out : List ℕ) (at number :
     left = sym (λ i. stateOf (p .board i) (p .memory i))
 
     -- the line, and then the rest
-    written : Passes Writes (desk b m out at number) e (desk (r .board) m′ out′ at′ (number + 1))
+    written : Passes Fills (draft b m out at number) e (draft (r .board) m′ out′ at′ (number + 1))
     unfolding after
     written o x g =
         let told : Piece out at (line number ((step (stateOf b m) e) .answer) ((step (stateOf b m) e) .state .board .ring .count)) out′ at′ =
         subst (λ (l : List ℕ). Piece out at l out′ at′) (λ i. line number (p .answer i) (p .board i .ring .count)) w in
-        subst (λ (st : State). Writes o (record { out = out′; at = at′; number = number + 1; state = st }) x → Writes o (desk b m out at number) (record { events = e ∷ x .events; end = x .end })) left
+        subst (λ (st : State). Fills o (record { out = out′; at = at′; number = number + 1; state = st }) x → Fills o (draft b m out at number) (record { events = e ∷ x .events; end = x .end })) left
         (λ v. record { text = rw (body-event number (stateOf b m) e x) (then told (v .text)); memory = v .memory }) g
 
-    pub walked-on : Walked s c (desk b m out at number) after (desk (r .board) m′ out′ at′ (number + 1))
+    pub walked-on : Walked s c (draft b m out at number) after (draft (r .board) m′ out′ at′ (number + 1))
     walked-on =
         let grows = item-grows s (c .place) e (after .place) (event-stood s c after e h) in
         record {
@@ -73,15 +73,15 @@ module _ (s : List ℕ) (c : Cursor) (b : Board) (m out : List ℕ) (at number :
             room = omega (arith, f .room, grows .0, grows .1, piece-length w, w .place, line-length number (r .answer) (r .board .ring .count));
             sound = subst InRun left (in-run-step (stateOf b m) e (f .sound));
           };
-          way = λ start v. way-on Page Desk Writes s start (desk b m out at number) (desk (r .board) m′ out′ at′ (number + 1)) c after e v h written;
+          way = λ start v. way-on Page Draft Fills s start (draft b m out at number) (draft (r .board) m′ out′ at′ (number + 1)) c after e v h written;
           nearer = omega (arith, grows .0, grows .1);
         }
 
 -- the whole file, from its start
-pub walked-over : (s : List ℕ) (start : Desk) (c : Cursor) (k : Desk) (z : End) (out′ : List ℕ) (at′ : ℕ)
+pub walked-over : (s : List ℕ) (start : Draft) (c : Cursor) (k : Draft) (z : End) (out′ : List ℕ) (at′ : ℕ)
     → Walked s (record { place = 0 }) start c k → found s c ≡ Over z → Piece (k .out) (k .at) (ending z (levelsOf (k .state))) out′ at′
-    → Writes (record { out = out′; at = at′; memory = k .state .memory }) start (session s)
+    → Fills (record { out = out′; at = at′; memory = k .state .memory }) start (session s)
 unfolding after
 walked-over s start c k z out′ at′ p h w =
-    way-over Page Desk Writes s start k c z _ (p .way start (way-start Page Desk Writes s start)) h
+    way-over Page Draft Fills s start k c z _ (p .way start (way-start Page Draft Fills s start)) h
     (record { text = rw (body-end (k .number) (k .state) z) w; memory = refl })

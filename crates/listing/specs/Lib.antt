@@ -1,4 +1,4 @@
 pub mod Shortcuts
-pub mod Desk
+pub mod Draft
 pub mod Promises
 pub mod Unique

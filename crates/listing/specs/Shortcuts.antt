@@ -25,7 +25,7 @@ use Rattle.rules.specs.Record.{State}
 use Rattle.rules.specs.Parts.{withBurst, withLoad, withOutputs}
 use Rattle.rules.specs.Clocks.{closed, tickAccepted}
 use Rattle.rules.specs.Laws.Soundness.{Stands}
-use Rattle.moves.specs.Promises.{lent}
+use Rattle.moves.specs.Promises.{withLevels}
 use Rattle.board.specs.declared.Reply.{Reply}
 use Rattle.run.specs.declared.Cursor.{Cursor}
 use Rattle.run.specs.declared.Ahead.{Ahead}
@@ -40,23 +40,23 @@ unfoldable pub commonEvent : ℕ → ℕ → Event
 commonEvent kind v = cond (eqb kind 1) (Write 0x18 v) (signal Tick)
 
 -- what stands ahead, if it is one of these, as numbers
-abbrev pub nothing : Common
-nothing = record { kind = 0; value = 0; after = record { place = 0 } }
+abbrev pub uncommon : Common
+uncommon = record { kind = 0; value = 0; after = record { place = 0 } }
 
 abbrev pub commonSignal : Signal → Cursor → Common
 commonSignal Tick c = record { kind = 2; value = 0; after = c }
-commonSignal Outside c = nothing
-commonSignal Trigger c = nothing
-commonSignal Passed c = nothing
-commonSignal Failed c = nothing
-commonSignal Settled c = nothing
+commonSignal Outside c = uncommon
+commonSignal Trigger c = uncommon
+commonSignal Passed c = uncommon
+commonSignal Failed c = uncommon
+commonSignal Settled c = uncommon
 
 abbrev pub commonOf : Ahead → Common
-commonOf (Found (Write o v) c) = cond (eqb o 0x18) (record { kind = 1; value = v; after = c }) nothing
+commonOf (Found (Write o v) c) = cond (eqb o 0x18) (record { kind = 1; value = v; after = c }) uncommon
 commonOf (Found (signal x) c) = commonSignal x c
-commonOf (Found (PowerUp x) c) = nothing
-commonOf (Found (Read o) c) = nothing
-commonOf (Over x) = nothing
+commonOf (Found (PowerUp x) c) = uncommon
+commonOf (Found (Read o) c) = uncommon
+commonOf (Over x) = uncommon
 
 -- No interrupt is selected, so that no edge can come of it; the active buffer is the whole one.
 unfoldable pub takes : Board → ℕ → Bool
@@ -78,7 +78,7 @@ abbrev pub boardAs : Board → Core → Ring → Board
 boardAs rest core ring = record { core = core; size = rest .size; request = rest .request; ring = ring }
 
 abbrev pub boardWith : Board → List ℕ → Board
-boardWith b ls = record { core = lent (b .core) ls; size = b .size; request = b .request; ring = b .ring }
+boardWith b ls = record { core = withLevels (b .core) ls; size = b .size; request = b .request; ring = b .ring }
 
 abbrev pub coreWith : Core → Change → List ℕ → Core
 coreWith c r ls =

@@ -8,7 +8,7 @@ ghost use Rattle.rules.specs.Record.{depth, stateOf};
 ghost use Rattle.rules.specs.Told.{Told};
 ghost use Rattle.record.specs.Capped.{cappedBoard};
 ghost use Rattle.listing.specs.Shortcuts.{commonOf, quick, boardAs, InRun};
-ghost use Rattle.listing.specs.Desk.{boardNow, desk, Fair, Hastens, Hurries};
+ghost use Rattle.listing.specs.Draft.{boardNow, draft, Fair, Hastens, Hurries};
 use crate::parts::whole;
 use crate::parts::with_levels;
 use crate::shortcuts::Change;
@@ -109,8 +109,8 @@ pub(crate) fn hurry(
     memory: &mut [u32],
     out: &mut [u8],
 ) -> Hurried
-    requires { ⌜ (length (now s) ≤ 65536) × Fair (now s) from (desk b (now memory) (now out) place first) ⌝ }
-    ensures { λ r. ⌜ Hurries (now (s .entry)) from (desk b (now (memory .entry)) (now (out .entry)) place first) r (now (memory .exit)) (now (out .exit)) ⌝ }
+    requires { ⌜ (length (now s) ≤ 65536) × Fair (now s) from (draft b (now memory) (now out) place first) ⌝ }
+    ensures { λ r. ⌜ Hurries (now (s .entry)) from (draft b (now (memory .entry)) (now (out .entry)) place first) r (now (memory .exit)) (now (out .exit)) ⌝ }
 {
     let d = depth(b);
     let mut core = b.core;

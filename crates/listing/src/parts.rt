@@ -1,6 +1,6 @@
 // The record of a run, put together of its parts.
 ghost use mathlib.Core.Path.{_≡_};
-ghost use Rattle.moves.specs.Promises.{lent};
+ghost use Rattle.moves.specs.Promises.{withLevels};
 ghost use Rattle.listing.specs.Shortcuts.{boardAs};
 use rules::Board;
 use rules::Burst;
@@ -30,7 +30,7 @@ pub(crate) fn whole(rest: Board, core: Core, ring: Ring) -> Board
 
 // Field by field: of parts that are copied whole, the compiler keeps groups of flags in memory and waits for them.
 pub(crate) fn with_levels(core: Core, levels: [u16; 20]) -> Core
-    ensures { λ r. ⌜ r ≡ lent core levels ⌝ }
+    ensures { λ r. ⌜ r ≡ withLevels core levels ⌝ }
 {
     Core {
         powered: core.powered,

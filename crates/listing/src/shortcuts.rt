@@ -6,7 +6,7 @@ ghost use Rattle.rules.specs.declared.Event.the-variants.{Write};
 ghost use Rattle.rules.specs.Told.{Told};
 ghost use Rattle.record.specs.Capped.{cappedBoard};
 ghost use Rattle.board.specs.Promises.{Stepped};
-ghost use Rattle.listing.specs.Shortcuts.{commonEvent, nothing, commonSignal, commonOf, takes, ticks, quick, boardWith, replyOf, InRun};
+ghost use Rattle.listing.specs.Shortcuts.{commonEvent, uncommon, commonSignal, commonOf, takes, ticks, quick, boardWith, replyOf, InRun};
 ghost use Rattle.rules.specs.Record.{depth, stateOf};
 ghost use Rattle.run.specs.declared.Ahead.the-variants.{Found};
 use channels::serve;
@@ -34,8 +34,8 @@ pub(crate) struct Common {
     pub after: Cursor,
 }
 
-pub(crate) fn other() -> Common
-    ensures { λ r. ⌜ r ≡ nothing ⌝ }
+pub(crate) fn uncommon() -> Common
+    ensures { λ r. ⌜ r ≡ uncommon ⌝ }
 {
     Common {
         kind: 0,
@@ -54,7 +54,7 @@ pub(crate) fn written(offset: u32, value: u32, after: Cursor) -> Common
             after: after,
         };
     }
-    other()
+    uncommon()
 }
 
 pub(crate) fn signalled(x: Signal, after: Cursor) -> Common
@@ -66,11 +66,11 @@ pub(crate) fn signalled(x: Signal, after: Cursor) -> Common
             value: 0,
             after: after,
         },
-        Signal::Outside => other(),
-        Signal::Trigger => other(),
-        Signal::Passed => other(),
-        Signal::Failed => other(),
-        Signal::Settled => other(),
+        Signal::Outside => uncommon(),
+        Signal::Trigger => uncommon(),
+        Signal::Passed => uncommon(),
+        Signal::Failed => uncommon(),
+        Signal::Settled => uncommon(),
     }
 }
 
@@ -81,10 +81,10 @@ pub(crate) fn common_of(n: Ahead) -> Common
         Ahead::Found(e, after) => match e {
             Event::Write { offset, value } => written(offset, value, after),
             Event::Signal(x) => signalled(x, after),
-            Event::PowerUp(_) => other(),
-            Event::Read { offset: _ } => other(),
+            Event::PowerUp(_) => uncommon(),
+            Event::Read { offset: _ } => uncommon(),
         },
-        Ahead::Over(_) => other(),
+        Ahead::Over(_) => uncommon(),
     }
 }
 

@@ -20,23 +20,23 @@ use Rattle.rules.proofs.Choice.{cond-false}
 use Rattle.rules.specs.declared.Core.{Core}
 use Rattle.rules.specs.declared.Ring.{Ring}
 use Rattle.moves.specs.Ready.{Ready}
-use Rattle.moves.specs.Does.{Does, placeOf, listed}
-use Rattle.moves.specs.Deal.{Dealing, dealing, front, left, placeNow, dealOne, dealAll}
+use Rattle.moves.specs.Does.{Does, ringPlace, ringValues}
+use Rattle.moves.specs.Deal.{Dealing, dealing, front, placePassed, placeNow, dealOne, dealAll}
 use Rattle.moves.specs.declared.Played.{Played}
 use Rattle.moves.proofs.Rings.{ready-good, left-placed, left-count}
 use Rattle.channels.proofs.Moving.{moving-some}
 
 -- ---- One value
 
-abbrev held : ℕ → Dealing → List ℕ
-held d s = listed d (s .ring) (s .memory)
+abbrev inRing : ℕ → Dealing → List ℕ
+inRing d s = ringValues d (s .ring) (s .memory)
 
 -- the values in order: the front one, and those after it
-held-split : (d : ℕ) (s : Dealing) → zero < s .ring .count → held d s ≡ front s ∷ drop 1 (held d s)
+held-split : (d : ℕ) (s : Dealing) → zero < s .ring .count → inRing d s ≡ front s ∷ drop 1 (inRing d s)
 unfolding values
 held-split d s h = go (s .ring .count) refl
   where
-    go : (n : ℕ) → s .ring .count ≡ n → held d s ≡ front s ∷ drop 1 (held d s)
+    go : (n : ℕ) → s .ring .count ≡ n → inRing d s ≡ front s ∷ drop 1 (inRing d s)
     go zero e = absurd (omega arith)
     go (suc n) e = rw e
 
@@ -48,15 +48,15 @@ take-next false k l h = refl
 -- ---- A value to each channel of a list
 
 pub record Dealt (binary again : Bool) (d : ℕ) (ks : List ℕ) (s : Dealing) : Type 0 where
-  pub levels : (dealAll binary again d ks s) .levels ≡ laid binary (s .levels) ks (take (length ks) (held d s))
-  pub places : placeNow (dealAll binary again d ks s) ≡ times (left again d) (length ks) (placeNow s)
-  pub ended : (dealAll binary again d ks s) .ended ≡ s .ended || carriesEof (take (length ks) (held d s))
+  pub levels : (dealAll binary again d ks s) .levels ≡ laid binary (s .levels) ks (take (length ks) (inRing d s))
+  pub places : placeNow (dealAll binary again d ks s) ≡ times (placePassed again d) (length ks) (placeNow s)
+  pub ended : (dealAll binary again d ks s) .ended ≡ s .ended || carriesEof (take (length ks) (inRing d s))
 
 pub dealt : (binary again : Bool) (d : ℕ) (ks : List ℕ) (s : Dealing) → Good d (placeNow s) → length ks ≤ s .ring .count → Dealt binary again d ks s
 unfolding dealAll dealOne laid times carriesEof some
 dealt binary again d [] s g h = record { levels = refl; places = refl; ended = sym (or-false (s .ended)) }
 dealt binary again d (k ∷ ks) s g h =
-    let l = held d s in
+    let l = inRing d s in
     let m = left-placed again d (placeNow s) g (omega arith) in
     let r = dealt binary again d ks (dealOne binary again d k s) (m .good) (omega (arith, left-count again d (placeNow s))) in
     let long = length-values d (s .ring .first) (s .ring .count) (s .memory) in
@@ -74,11 +74,11 @@ dealt binary again d (k ∷ ks) s g h =
 -- ---- An accepted clock
 
 -- what is dealt at a clock, from the levels, the ring and the memory before it
-abbrev pub start : Core → Ring → List ℕ → Dealing
-start c ring m = dealing (c .outputs .levels) ring false m
+abbrev pub undealt : Core → Ring → List ℕ → Dealing
+undealt c ring m = dealing (c .outputs .levels) ring false m
 
 abbrev pub atClock : Core → ℕ → Ring → List ℕ → Dealing
-atClock c d ring m = dealAll (c .control .binary) (closed c) d (targets c) (start c ring m)
+atClock c d ring m = dealAll (c .control .binary) (closed c) d (targets c) (undealt c ring m)
 
 -- the core that a clock leaves
 abbrev pub coreAfter : Core → ℕ → List ℕ → Bool → Core
@@ -87,11 +87,11 @@ coreAfter c cursor levels ended =
     (withLoad (loadAfter ended (c .load))
     (withOutputs (record { mask = c .outputs .mask; cursor = cursor; levels = levels }) c))
 
-left-outgoing : (c : Core) (d k : ℕ) (p : Place) → times (left (closed c) d) k p ≡ place d (outgoing c k) p
+left-outgoing : (c : Core) (d k : ℕ) (p : Place) → times (placePassed (closed c) d) k p ≡ place d (outgoing c k) p
 unfolding outgoing place
 left-outgoing c d k p = go (closed c)
   where
-    go : (t : Bool) → times (left t d) k p ≡ place d (cond t (recirculate k) (leave k)) p
+    go : (t : Bool) → times (placePassed t d) k p ≡ place d (cond t (recirculate k) (leave k)) p
     go true = refl
     go false = refl
 
@@ -102,21 +102,21 @@ answer c d ring m k =
     record { core = coreAfter c (cursorAfter c) (x .levels) (x .ended); ring = x .ring; moved = k; fate = 0 }
 
 -- dealing to the targets does what the rules say of a clock that moves values
-pub dealt-does : (c : Core) (d : ℕ) (ring : Ring) (m : List ℕ) → Ready d ring m → moving c (listed d ring m) ≢ 0
-    → Does d (clock c (listed d ring m)) ring m (answer c d ring m (moving c (listed d ring m))) ((atClock c d ring m) .memory)
+pub dealt-does : (c : Core) (d : ℕ) (ring : Ring) (m : List ℕ) → Ready d ring m → moving c (ringValues d ring m) ≢ 0
+    → Does d (clock c (ringValues d ring m)) ring m (answer c d ring m (moving c (ringValues d ring m))) ((atClock c d ring m) .memory)
 unfolding clock moves burstEnds
 dealt-does c d ring m ready h =
-    let w = moving-some c (listed d ring m) h in
-    go (moving c (listed d ring m)) h (w .0) (omega (arith, w .1, length-values d (ring .first) (ring .count) m))
+    let w = moving-some c (ringValues d ring m) h in
+    go (moving c (ringValues d ring m)) h (w .0) (omega (arith, w .1, length-values d (ring .first) (ring .count) m))
   where
     go : (k : ℕ) → k ≢ 0 → k ≡ length (targets c) → length (targets c) ≤ ring .count
-        → Does d (moves c (listed d ring m) k) ring m (answer c d ring m k) ((atClock c d ring m) .memory)
+        → Does d (moves c (ringValues d ring m) k) ring m (answer c d ring m k) ((atClock c d ring m) .memory)
     go zero n e l = absurd (n refl)
     go (suc k) n e l =
-        let t = dealt (c .control .binary) (closed c) d (targets c) (start c ring m) (ready-good ready) l in
-        let levels = t .levels ∙ ap (λ (n : ℕ). laid (c .control .binary) (c .outputs .levels) (targets c) (take n (listed d ring m))) (sym e) in
-        let ended = t .ended ∙ ap (λ (n : ℕ). carriesEof (take n (listed d ring m))) (sym e) in
-        let places = t .places ∙ ap (λ (n : ℕ). times (left (closed c) d) n (placeOf ring m)) (sym e) ∙ left-outgoing c d (suc k) (placeOf ring m) in
+        let t = dealt (c .control .binary) (closed c) d (targets c) (undealt c ring m) (ready-good ready) l in
+        let levels = t .levels ∙ ap (λ (n : ℕ). laid (c .control .binary) (c .outputs .levels) (targets c) (take n (ringValues d ring m))) (sym e) in
+        let ended = t .ended ∙ ap (λ (n : ℕ). carriesEof (take n (ringValues d ring m))) (sym e) in
+        let places = t .places ∙ ap (λ (n : ℕ). times (placePassed (closed c) d) n (ringPlace ring m)) (sym e) ∙ left-outgoing c d (suc k) (ringPlace ring m) in
         record {
           core = λ i. coreAfter c (cursorAfter c) (levels i) (ended i);
           moved = refl;

@@ -2,8 +2,8 @@
 pub mod Rings
 pub mod Loop
 pub mod Dealt
-pub mod Standing
-pub mod Entries
+pub mod Still
+pub mod Tested
 pub mod Storing
 pub mod Clocking
 pub mod Unique

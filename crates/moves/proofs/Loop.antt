@@ -18,7 +18,7 @@ use Rattle.rules.proofs.Choice.{cond-true, cond-false}
 use Rattle.laws.specs.Search.{without, ByZeros}
 use Rattle.laws.proofs.Search.{some-mask, group-zeros}
 use Rattle.moves.specs.Ready.{Ready}
-use Rattle.moves.specs.Deal.{Dealing, dealing, front, left, placeNow, dealOne, dealAll}
+use Rattle.moves.specs.Deal.{Dealing, dealing, front, placePassed, placeNow, dealOne, dealAll}
 use Rattle.moves.proofs.Rings.{ready-good, left-placed}
 
 -- ---- One value
@@ -41,7 +41,7 @@ bit-or k x y =
 -- carried EOF
 pub one-dealt : (binary again : Bool) (d k : ℕ) (levels : List ℕ) (ring : Ring) (marks : ℕ) (m : List ℕ) (v level : ℕ) (ring′ : Ring) (m′ : List ℕ)
     → let s = dealing levels ring (bit 16 marks) m in
-    level ≡ coded binary v → v ≡ front s → ring′ ≡ (left again d (placeNow s)) .ring → m′ ≡ (left again d (placeNow s)) .memory
+    level ≡ coded binary v → v ≡ front s → ring′ ≡ (placePassed again d (placeNow s)) .ring → m′ ≡ (placePassed again d (placeNow s)) .memory
     → dealing (set levels k level) ring′ (bit 16 (bitOr marks v)) m′ ≡ dealOne binary again d k s
 unfolding dealOne
 one-dealt binary again d k levels ring marks m v level ring′ m′ l e r n =

@@ -11,7 +11,7 @@ use Rattle.rules.specs.Bits.{bit}
 use Rattle.rules.specs.Record.{valueSpan}
 use Rattle.rules.specs.Clocks.{coded}
 use Rattle.rules.specs.Place.{Place, placeLeave, placeAgain}
-use Rattle.moves.specs.Does.{placeOf}
+use Rattle.moves.specs.Does.{ringPlace}
 
 -- the levels, the ring, whether a value that left carried EOF, and the memory
 pub record Dealing : Type 0 where
@@ -26,20 +26,20 @@ dealing levels ring ended m = record { levels = levels; ring = ring; ended = end
 abbrev pub front : Dealing → ℕ
 front s = getD (s .memory) (s .ring .first) 0 % valueSpan
 
-abbrev pub left : Bool → ℕ → Place → Place
-left true d p = placeAgain d p
-left false d p = placeLeave d p
+abbrev pub placePassed : Bool → ℕ → Place → Place
+placePassed true d p = placeAgain d p
+placePassed false d p = placeLeave d p
 
 abbrev pub placeNow : Dealing → Place
-placeNow s = placeOf (s .ring) (s .memory)
+placeNow s = ringPlace (s .ring) (s .memory)
 
 unfoldable pub dealOne : Bool → Bool → ℕ → ℕ → Dealing → Dealing
 dealOne binary again d k s =
     record {
       levels = set (s .levels) k (coded binary (front s));
-      ring = (left again d (placeNow s)) .ring;
+      ring = (placePassed again d (placeNow s)) .ring;
       ended = s .ended || bit 16 (front s);
-      memory = (left again d (placeNow s)) .memory;
+      memory = (placePassed again d (placeNow s)) .memory;
     }
 
 unfoldable pub dealAll : Bool → Bool → ℕ → List ℕ → Dealing → Dealing

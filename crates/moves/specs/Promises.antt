@@ -1,6 +1,6 @@
 -- The promises of the public functions: each fixes every outcome, the levels and the memory too.
---   dealtOf         what is dealt to the channels of a mask
---   lent c ls       the core c with the levels ls
+--   dealtOf           what is dealt to the channels of a mask
+--   withLevels c ls   the core c with the levels ls
 use Prim.Native.Nat.{ℕ}
 use mathlib.Core.Path.{_≡_}
 use mathlib.Core.Bool.{Bool, false, cond}
@@ -17,11 +17,11 @@ use Rattle.rules.specs.Clocks.{Play, fateNumber, only, burstAfter, loadAfter}
 use Rattle.rules.specs.Writes.{writeData}
 use Rattle.rules.specs.Place.{place}
 use Rattle.moves.specs.Ready.{fits, canLoad}
-use Rattle.moves.specs.Does.{placeOf}
+use Rattle.moves.specs.Does.{ringPlace}
 use Rattle.moves.specs.Deal.{Dealing, dealing, dealAll}
 
-abbrev pub lent : Core → List ℕ → Core
-lent c ls = withOutputs (record { mask = c .outputs .mask; cursor = c .outputs .cursor; levels = ls }) c
+abbrev pub withLevels : Core → List ℕ → Core
+withLevels c ls = withOutputs (record { mask = c .outputs .mask; cursor = c .outputs .cursor; levels = ls }) c
 
 -- the core c with the cursor, what r tells, and the levels ls
 abbrev pub joined : Core → ℕ → Frame → List ℕ → Core
@@ -49,7 +49,7 @@ pub record Deals (mask : ℕ) (x : Frame) (binary again : Bool) (d : ℕ) (ls m 
 abbrev pub loadOf : Core → ℕ → Ring → ℕ → ℕ → ℕ → Play
 loadOf c size ring d v len = cond (canLoad size ring d len) (writeData c (leb size (ring .count)) v) (only c)
 
-pub record Loaded (c : Core) (size : ℕ) (at : Ring) (d v : ℕ) (m : List ℕ) (r : Stored) (m′ : List ℕ) : Type 0 where
+pub record LoadsOne (c : Core) (size : ℕ) (at : Ring) (d v : ℕ) (m : List ℕ) (r : Stored) (m′ : List ℕ) : Type 0 where
   pub fate : r .fate ≡ fateNumber ((loadOf c size at d v (length m)) .fate)
-  pub ring : r .ring ≡ (place d ((loadOf c size at d v (length m)) .op) (placeOf at m)) .ring
-  pub memory : m′ ≡ (place d ((loadOf c size at d v (length m)) .op) (placeOf at m)) .memory
+  pub ring : r .ring ≡ (place d ((loadOf c size at d v (length m)) .op) (ringPlace at m)) .ring
+  pub memory : m′ ≡ (place d ((loadOf c size at d v (length m)) .op) (ringPlace at m)) .memory

@@ -7,7 +7,7 @@ use Rattle.rules.specs.declared.Core.{Core}
 use Rattle.rules.specs.declared.Ring.{Ring}
 use Rattle.moves.specs.declared.Frame.{Frame}
 use Rattle.moves.specs.declared.Stored.{Stored}
-use Rattle.moves.specs.Promises.{Deals, Loaded}
+use Rattle.moves.specs.Promises.{Deals, LoadsOne}
 
 abbrev pub Deals-unique : Type 0
 Deals-unique =
@@ -16,9 +16,9 @@ Deals-unique =
     → Deals mask x binary again d ls m r′ ls₂ n′
     → (r ≡ r′) × (ls₁ ≡ ls₂) × (n ≡ n′)
 
-abbrev pub Loaded-unique : Type 0
-Loaded-unique =
+abbrev pub LoadsOne-unique : Type 0
+LoadsOne-unique =
     (c : Core) (size : ℕ) (ring : Ring) (d v : ℕ) (m : List ℕ) (r r′ : Stored) (n n′ : List ℕ)
-    → Loaded c size ring d v m r n
-    → Loaded c size ring d v m r′ n′
+    → LoadsOne c size ring d v m r n
+    → LoadsOne c size ring d v m r′ n′
     → (r ≡ r′) × (n ≡ n′)

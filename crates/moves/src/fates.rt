@@ -1,7 +1,7 @@
 // What becomes of a load.
 ghost use mathlib.Core.Path.{_≡_};
 ghost use Rattle.moves.specs.Ready.{fateOf};
-use crate::sizes::fits;
+use crate::limits::fits;
 use rules::Core;
 use rules::Ring;
 use status::closed;

@@ -1,14 +1,14 @@
 // The values that move: those that an accepted clock takes to the channels, and one that a load stores.
 // Every call takes every input. What each promises is in specs/Promises.antt.
-ghost use Rattle.moves.specs.Promises.{Deals, Loaded};
+ghost use Rattle.moves.specs.Promises.{Deals, LoadsOne};
 use crate::fates::fate_of;
 use crate::frames::burst_after;
 use crate::frames::coded;
 use crate::frames::load_after;
+use crate::limits::fits;
+use crate::limits::mask_if;
 use crate::ring::pass;
 use crate::ring::wrapped;
-use crate::sizes::fits;
-use crate::sizes::mask_if;
 use rules::Burst;
 use rules::Core;
 use rules::Load;
@@ -16,8 +16,8 @@ use rules::Ring;
 
 mod fates;
 mod frames;
+mod limits;
 mod ring;
-mod sizes;
 
 // What an event that is not refused did, with the stored values at their places.
 pub struct Played {
@@ -82,7 +82,7 @@ pub fn deal(
 // A write of v to 18h, where the buffer takes values up to the active size. Where the ring does not lie in the first d values of the
 // memory, or the active size is above d, nothing is stored.
 pub fn load(c: Core, size: u32, ring: Ring, d: u32, v: u32, memory: &mut [u32]) -> Stored
-    ensures { λ r. ⌜ Loaded c size ring d v (now (memory .entry)) r (now (memory .exit)) ⌝ }
+    ensures { λ r. ⌜ LoadsOne c size ring d v (now (memory .entry)) r (now (memory .exit)) ⌝ }
 {
     let fate = fate_of(c, size, ring, d, memory.len());
     if fate == 1 {

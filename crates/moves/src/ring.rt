@@ -4,8 +4,8 @@ ghost use mathlib.Core.Path.{_≡_};
 ghost use lib.ListN.{getD};
 ghost use Rattle.rules.specs.Record.{valueSpan};
 ghost use Rattle.moves.specs.Ready.{Ready};
-ghost use Rattle.moves.specs.Does.{placeOf};
-ghost use Rattle.moves.specs.Deal.{left};
+ghost use Rattle.moves.specs.Does.{ringPlace};
+ghost use Rattle.moves.specs.Deal.{placePassed};
 use rules::Ring;
 
 // x mod depth, for an x of less than two laps: a division would take longer than the rest of a value's way.
@@ -31,15 +31,15 @@ pub(crate) fn stepped(x: u32, d: u32) -> u32
 }
 
 // The value that left the front of the ring, and the ring after it.
-pub(crate) struct Passed {
+pub(crate) struct Departed {
     pub value: u32,
     pub ring: Ring,
 }
 
 // 01: "A leaving value moves first on by one, mod depth." "A recirculated value leaves and is then stored."
-pub(crate) fn pass(ring: Ring, again: bool, d: u32, memory: &mut [u32]) -> Passed
+pub(crate) fn pass(ring: Ring, again: bool, d: u32, memory: &mut [u32]) -> Departed
     requires { ⌜ Ready d ring (now memory) × (0 < ring .count) ⌝ }
-    ensures { λ r. ⌜ (r .value ≡ getD (now (memory .entry)) (ring .first) 0 % valueSpan) × (r .ring ≡ (left again d (placeOf ring (now (memory .entry)))) .ring) × (now (memory .exit) ≡ (left again d (placeOf ring (now (memory .entry)))) .memory) ⌝ }
+    ensures { λ r. ⌜ (r .value ≡ getD (now (memory .entry)) (ring .first) 0 % valueSpan) × (r .ring ≡ (placePassed again d (ringPlace ring (now (memory .entry)))) .ring) × (now (memory .exit) ≡ (placePassed again d (ringPlace ring (now (memory .entry)))) .memory) ⌝ }
 {
     let first = ring.first as usize;
     let v = memory[first] % 131072;
@@ -48,7 +48,7 @@ pub(crate) fn pass(ring: Ring, again: bool, d: u32, memory: &mut [u32]) -> Passe
     if again {
         let at = wrapped(next + rest, d) as usize;
         memory[at] = v;
-        return Passed {
+        return Departed {
             value: v,
             ring: Ring {
                 first: next,
@@ -56,7 +56,7 @@ pub(crate) fn pass(ring: Ring, again: bool, d: u32, memory: &mut [u32]) -> Passe
             },
         };
     }
-    Passed {
+    Departed {
         value: v,
         ring: Ring {
             first: next,

@@ -11,33 +11,33 @@ use lib.Seq.{getD-append-seam, getD-append-add}
 use borrow.Author.Tests.{ltb-true, ltb-false, le-ltb, le-leb, lt-leb, ne-eqb}
 use Rattle.rules.proofs.Choice.{cases, cond-false}
 use Rattle.notation.specs.declared.Mark.the-variants.{Byte}
-use Rattle.notation.specs.Hex.{worth, byteOf, markOf, markAt, whole, onMark, from, openingOf, reading}
-use Rattle.notation.specs.Laws.{digit, spelt, AllBytes, none, next, Spelt-read}
+use Rattle.notation.specs.Hex.{hexWorth, byteOf, markOf, markAt, whole, onMark, hexFrom, openingOf, hexReading}
+use Rattle.notation.specs.Laws.{hexDigit, spelt, AllBytes, none, next, Spelt-read}
 
 -- ---- One byte
 
-worth-low : (d : ℕ) → d < 10 → worth (48 + d) ≡ d
-unfolding worth
+worth-low : (d : ℕ) → d < 10 → hexWorth (48 + d) ≡ d
+unfolding hexWorth
 worth-low d h = rw (le-leb 48 (48 + d) (omega arith), le-leb (48 + d) 57 (omega arith)) (omega arith)
 
-worth-high : (d : ℕ) → 10 ≤ d → d < 16 → worth (55 + d) ≡ d
-unfolding worth
+worth-high : (d : ℕ) → 10 ≤ d → d < 16 → hexWorth (55 + d) ≡ d
+unfolding hexWorth
 worth-high d h k =
     rw (le-leb 48 (55 + d) (omega arith), lt-leb (55 + d) 57 (omega arith), le-leb 65 (55 + d) (omega arith), le-leb (55 + d) 70 (omega arith))
     (omega arith)
 
-worth-digit : (d : ℕ) → d < 16 → worth (digit d) ≡ d
-unfolding digit
-worth-digit d h =
-    cases (λ (c : ℕ). worth c ≡ d) (ltb d 10) (λ t. worth-low d (ltb-true d 10 t)) (λ t. worth-high d (ltb-false d 10 t) h)
+hex-worth-digit : (d : ℕ) → d < 16 → hexWorth (hexDigit d) ≡ d
+unfolding hexDigit
+hex-worth-digit d h =
+    cases (λ (c : ℕ). hexWorth c ≡ d) (ltb d 10) (λ t. worth-low d (ltb-true d 10 t)) (λ t. worth-high d (ltb-false d 10 t) h)
 
-digit-between : (d : ℕ) → d < 16 → (48 ≤ digit d) × (digit d ≤ 70)
-unfolding digit
+digit-between : (d : ℕ) → d < 16 → (48 ≤ hexDigit d) × (hexDigit d ≤ 70)
+unfolding hexDigit
 digit-between d h =
     cases (λ (c : ℕ). (48 ≤ c) × (c ≤ 70)) (ltb d 10) (λ t. (omega arith, omega (arith, ltb-true d 10 t))) (λ t. (omega arith, omega arith))
 
 -- no digit is a control character, a `#` or a blank
-mark-digit : (c e : ℕ) → 48 ≤ c → c ≤ 70 → markOf c e false ≡ byteOf (worth c) (worth e)
+mark-digit : (c e : ℕ) → 48 ≤ c → c ≤ 70 → markOf c e false ≡ byteOf (hexWorth c) (hexWorth e)
 unfolding markOf
 mark-digit c e h k =
     rw (
@@ -54,11 +54,11 @@ byte-of : (h l : ℕ) → h < 16 → l < 16 → byteOf h l ≡ Byte (16 * h + l)
 unfolding byteOf
 byte-of h l p q = rw (le-ltb 15 h (omega arith), le-ltb 15 l (omega arith))
 
-mark-two : (b : ℕ) → b < 256 → markOf (digit (b / 16)) (digit (b % 16)) false ≡ Byte b
+mark-two : (b : ℕ) → b < 256 → markOf (hexDigit (b / 16)) (hexDigit (b % 16)) false ≡ Byte b
 mark-two b h =
     let k = digit-between (b / 16) (omega arith) in
-    mark-digit (digit (b / 16)) (digit (b % 16)) (k .0) (k .1)
-    ∙ (λ i. byteOf (worth-digit (b / 16) (omega arith) i) (worth-digit (b % 16) (omega arith) i))
+    mark-digit (hexDigit (b / 16)) (hexDigit (b % 16)) (k .0) (k .1)
+    ∙ (λ i. byteOf (hex-worth-digit (b / 16) (omega arith) i) (hex-worth-digit (b % 16) (omega arith) i))
     ∙ byte-of (b / 16) (b % 16) (omega arith) (omega arith)
     ∙ ap Byte (div-add-mod b 16)
 
@@ -66,29 +66,29 @@ mark-two b h =
 
 -- two digits that stand at a place are read as their byte
 two-read : (xs ys : List ℕ) (b : ℕ) → b < 256 → (f : ℕ)
-    → from (suc f) (xs ++ digit (b / 16) ∷ digit (b % 16) ∷ ys) (length xs) false
-    ≡ onMark (from f (xs ++ digit (b / 16) ∷ digit (b % 16) ∷ ys)) (length xs) (Byte b)
-unfolding from
+    → hexFrom (suc f) (xs ++ hexDigit (b / 16) ∷ hexDigit (b % 16) ∷ ys) (length xs) false
+    ≡ onMark (hexFrom f (xs ++ hexDigit (b / 16) ∷ hexDigit (b % 16) ∷ ys)) (length xs) (Byte b)
+unfolding hexFrom
 two-read xs ys b h f =
-    let t : List ℕ = xs ++ digit (b / 16) ∷ digit (b % 16) ∷ ys in
+    let t : List ℕ = xs ++ hexDigit (b / 16) ∷ hexDigit (b % 16) ∷ ys in
     let mark : markAt t (length xs) false ≡ Byte b =
-    (λ i. markOf (getD-append-seam xs (digit (b / 16)) (digit (b % 16) ∷ ys) 0 i) (getD-append-add xs (digit (b / 16) ∷ digit (b % 16) ∷ ys) 1 0 i) false)
+    (λ i. markOf (getD-append-seam xs (hexDigit (b / 16)) (hexDigit (b % 16) ∷ ys) 0 i) (getD-append-add xs (hexDigit (b / 16) ∷ hexDigit (b % 16) ∷ ys) 1 0 i) false)
     ∙ mark-two b h in
     let before : length xs < length t = rw length-append (omega arith) in
-    cond-false (leb (length t) (length xs)) _ _ (lt-leb (length t) (length xs) before) ∙ ap (onMark (from f t) (length xs)) mark
+    cond-false (leb (length t) (length xs)) _ _ (lt-leb (length t) (length xs) before) ∙ ap (onMark (hexFrom f t) (length xs)) mark
 
 spelt-from : (xs bs : List ℕ) → AllBytes bs → (f : ℕ) → length (spelt bs) < f
-    → from f (xs ++ spelt bs) (length xs) false ≡ record { bytes = bs; stop = whole }
-unfolding spelt from
+    → hexFrom f (xs ++ spelt bs) (length xs) false ≡ record { bytes = bs; stop = whole }
+unfolding spelt hexFrom
 spelt-from xs [] none zero l = absurd (omega arith)
 spelt-from xs [] none (suc f) l = rw (append-nil xs, le-leb (length xs) (length xs) (omega arith))
 spelt-from xs (b ∷ bs) (next h hs) zero l = absurd (omega arith)
 spelt-from xs (b ∷ bs) (next h hs) (suc f) l =
-    let ds : List ℕ = digit (b / 16) ∷ digit (b % 16) ∷ [] in
-    let rest : from f (xs ++ ds ++ spelt bs) (length (xs ++ ds)) false ≡ record { bytes = bs; stop = whole } =
+    let ds : List ℕ = hexDigit (b / 16) ∷ hexDigit (b % 16) ∷ [] in
+    let rest : hexFrom f (xs ++ ds ++ spelt bs) (length (xs ++ ds)) false ≡ record { bytes = bs; stop = whole } =
     spelt-from (xs ++ ds) bs hs f (omega arith) in
-    let there : from f (xs ++ digit (b / 16) ∷ digit (b % 16) ∷ spelt bs) (length xs + 2) false ≡ record { bytes = bs; stop = whole } =
-    sym (λ i. from f (append-assoc xs ds (spelt bs) i) (length-append xs ds i) false) ∙ rest in
+    let there : hexFrom f (xs ++ hexDigit (b / 16) ∷ hexDigit (b % 16) ∷ spelt bs) (length xs + 2) false ≡ record { bytes = bs; stop = whole } =
+    sym (λ i. hexFrom f (append-assoc xs ds (spelt bs) i) (length-append xs ds i) false) ∙ rest in
     two-read xs (spelt bs) b h f ∙ (λ i. record { bytes = b ∷ (there i) .bytes; stop = (there i) .stop })
 
 -- no digit opens a byte order mark
@@ -97,8 +97,8 @@ unfolding openingOf spelt
 spelt-opening [] none = refl
 spelt-opening (b ∷ bs) (next h hs) =
     let k = digit-between (b / 16) (omega arith) in
-    rw (ne-eqb (digit (b / 16)) 239 (λ p. omega (arith, p, k .1)))
+    rw (ne-eqb (hexDigit (b / 16)) 239 (λ p. omega (arith, p, k .1)))
 
 pub spelt-read : Spelt-read
-unfolding reading
+unfolding hexReading
 spelt-read bs h = rw (spelt-opening bs h) (spelt-from [] bs h (suc (length (spelt bs))) (omega arith))

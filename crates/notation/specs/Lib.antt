@@ -1,3 +1,3 @@
 pub mod Hex
-pub mod Table
+pub mod HexTable
 pub mod Laws

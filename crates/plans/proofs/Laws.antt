@@ -16,7 +16,7 @@ use Rattle.rules.specs.declared.Signal.the-variants.{Passed as passed, Failed a
 use Rattle.rules.specs.declared.Event.the-variants.{PowerUp as powerUp, Write as write, Read as read, Signal as signal}
 use Rattle.rules.proofs.Choice.{cases, either, and-both}
 use Rattle.plans.specs.declared.Plan.{Plan}
-use Rattle.plans.specs.Parts.{carried, Moves, Within}
+use Rattle.plans.specs.Parts.{carried, MovesOrStores, Within}
 use Rattle.plans.specs.Plan.{bufferPlan, writePlan, signalPlan, planned}
 use Rattle.plans.specs.Laws.{Plan-plays, Plan-ordinary, Plan-within}
 use Rattle.plans.proofs.Acts.{plays-tick, plays-outside, plays-buffer, plays-core, buffer-within, same-within}
@@ -35,14 +35,14 @@ module _ (c : Core) (buf : List ℕ) (full : Bool) (o v : ℕ) where
       (λ k. cases Comes (eqb o 0x00 && bit 15 v) (λ t. let b = and-both (eqb o 0x00) (bit 15 v) t in unfold onWrite carried in rw (b .0, b .1))
       (λ n. unfold carried in plays-core c buf full o v h k n)))
 
-within-write : (c : Core) (o v : ℕ) → Moves ((writePlan c o v) .act) → Within c ((writePlan c o v) .core)
-unfolding writePlan bufferPlan Moves
+within-write : (c : Core) (o v : ℕ) → MovesOrStores ((writePlan c o v) .act) → Within c ((writePlan c o v) .core)
+unfolding writePlan bufferPlan MovesOrStores
 within-write c o v =
     either P (eqb o 0x0C) (λ _. buffer-within v c)
     (either P (eqb o 0x18) (λ _. same-within c) (either P (eqb o 0x00 && bit 15 v) (λ m. absurd m) (λ m. absurd m)))
   where
     P : Plan → Type 0
-    P p = Moves (p .act) → Within c (p .core)
+    P p = MovesOrStores (p .act) → Within c (p .core)
 
 -- ---- Signals
 
@@ -56,8 +56,8 @@ plays-signal c buf full passed = refl
 plays-signal c buf full failed = refl
 plays-signal c buf full settled = refl
 
-within-signal : (c : Core) (x : Signal) → Moves ((signalPlan c x) .act) → Within c ((signalPlan c x) .core)
-unfolding signalPlan Moves
+within-signal : (c : Core) (x : Signal) → MovesOrStores ((signalPlan c x) .act) → Within c ((signalPlan c x) .core)
+unfolding signalPlan MovesOrStores
 within-signal c tick m = same-within c
 within-signal c outside m = same-within c
 within-signal c trigger m = absurd m
@@ -75,14 +75,14 @@ plan-plays c (read o) buf full = refl
 plan-plays c (signal x) buf full = plays-signal c buf full x
 
 pub plan-ordinary : Plan-ordinary
-unfolding planned Moves
+unfolding planned MovesOrStores
 plan-ordinary c (powerUp x) m = absurd m
 plan-ordinary c (write o v) m = tt
 plan-ordinary c (read o) m = tt
 plan-ordinary c (signal x) m = tt
 
 pub plan-within : Plan-within
-unfolding planned Moves
+unfolding planned MovesOrStores
 plan-within c (powerUp x) m = absurd m
 plan-within c (write o v) m = within-write c o v m
 plan-within c (read o) m = absurd m

@@ -8,7 +8,7 @@ use mathlib.Core.Bool.{Bool}
 use mathlib.Core.List.{List}
 use Rattle.rules.specs.declared.Core.{Core}
 use Rattle.rules.specs.declared.Event.{Event}
-use Rattle.plans.specs.Parts.{carried, Moves, Within}
+use Rattle.plans.specs.Parts.{carried, MovesOrStores, Within}
 use Rattle.plans.specs.Plan.{planned}
 use Rattle.rules.specs.Play.{play}
 use Rattle.rules.specs.Laws.Refusals.{Ordinary}
@@ -19,7 +19,7 @@ Plan-plays =
     → play c buf full e ≡ carried ((planned c e) .act) ((planned c e) .core) buf full
 
 abbrev pub Plan-ordinary : Type 0
-Plan-ordinary = (c : Core) (e : Event) → Moves ((planned c e) .act) → Ordinary e
+Plan-ordinary = (c : Core) (e : Event) → MovesOrStores ((planned c e) .act) → Ordinary e
 
 abbrev pub Plan-within : Type 0
-Plan-within = (c : Core) (e : Event) → Moves ((planned c e) .act) → Within c ((planned c e) .core)
+Plan-within = (c : Core) (e : Event) → MovesOrStores ((planned c e) .act) → Within c ((planned c e) .core)

@@ -1,6 +1,6 @@
 -- What a plan means, and parts of it that the code takes by themselves.
 --   carried a c buf full   what the rules make of the act a on the core c, the stored values being buf
---   Moves a                the act may move a value or store one
+--   MovesOrStores a        the act may move a value or store one
 --   Within c k             the core k has the mask of c, and a cursor no higher
 --   coreOf c o v           a write that changes the core alone, at each offset that has one
 use Prim.Native.Nat.{ℕ, _≤_}
@@ -21,11 +21,11 @@ carried Empties c buf full = record { core = c; op = clear; moved = 0; fate = no
 carried Clocks c buf full = clock c buf
 carried (Loads v) c buf full = writeData c full v
 
-unfoldable pub Moves : Act → Type 0
-Moves Nothing = ⊥
-Moves Empties = ⊥
-Moves Clocks = Unit {0}
-Moves (Loads v) = Unit {0}
+unfoldable pub MovesOrStores : Act → Type 0
+MovesOrStores Nothing = ⊥
+MovesOrStores Empties = ⊥
+MovesOrStores Clocks = Unit {0}
+MovesOrStores (Loads v) = Unit {0}
 
 pub record Within (c k : Core) : Type 0 where
   pub mask : k .outputs .mask ≡ c .outputs .mask

@@ -1,6 +1,6 @@
 -- The plan of an event that is not refused: the core that it leaves before a value moves, and what then comes of the stored values.
 --   coreAlone c      the core becomes c, and nothing comes of the stored values
---   initialises o    initialise and power-up, with the options o
+--   initialPlan o    initialise and power-up, with the options o
 --   bufferPlan c v   the write of v to 0Ch
 --   writePlan c o v  the write of v to the offset o; a write that 01 refuses never comes here
 --   signalPlan c x   a clock, a trigger, the end of a calibration or of settling
@@ -27,8 +27,8 @@ abbrev pub coreAlone : Core → Plan
 coreAlone c = record { core = c; act = Nothing }
 
 -- 01: "Initialise: .. empty buffer .."
-abbrev pub initialises : Options → Plan
-initialises o = record { core = initial o; act = Empties }
+abbrev pub initialPlan : Options → Plan
+initialPlan o = record { core = initial o; act = Empties }
 
 -- ---- Writes
 
@@ -42,7 +42,7 @@ unfoldable pub writePlan : Core → ℕ → ℕ → Plan
 writePlan c o v =
     cond (eqb o 0x0C) (bufferPlan c v)
     (cond (eqb o 0x18) (record { core = c; act = Loads v })
-    (cond (eqb o 0x00 && bit 15 v) (initialises (c .options))
+    (cond (eqb o 0x00 && bit 15 v) (initialPlan (c .options))
     (coreAlone (coreOf c o v))))
 
 -- ---- Signals
@@ -60,7 +60,7 @@ signalPlan c settled = coreAlone ((settles c) .core)
 
 -- 01 of initialise: "Power-up does the same."
 unfoldable pub planned : Core → Event → Plan
-planned c (powerUp x) = initialises (optionsOf x)
+planned c (powerUp x) = initialPlan (optionsOf x)
 planned c (write o v) = writePlan c o v
 planned c (read o) = coreAlone c
 planned c (signal x) = signalPlan c x

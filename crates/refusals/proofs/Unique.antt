@@ -2,9 +2,9 @@
 use Prim.Native.Nat.{ℕ}
 use mathlib.Core.Path.{sym, _∙_}
 use lib.ListN.{replicate, length-replicate}
-use Rattle.refusals.specs.Unique.{Refused-unique}
+use Rattle.refusals.specs.Unique.{RefusalTold-unique}
 
-pub refused-unique : Refused-unique
-refused-unique b len e r r′ p q =
+pub refusal-told-unique : RefusalTold-unique
+refusal-told-unique b len e r r′ p q =
     let long = length-replicate {A = ℕ} len 0 in
     p .told (replicate len 0) long ∙ sym (q .told (replicate len 0) long)

@@ -9,5 +9,5 @@ use Rattle.rules.specs.Refusals.{refusal}
 use Rattle.rules.specs.Record.{stateOf}
 
 -- the rules' number, on every sample memory of that length
-pub record Refused (b : Board) (len : ℕ) (e : Event) (r : ℕ) : Type 0 where
+pub record RefusalTold (b : Board) (len : ℕ) (e : Event) (r : ℕ) : Type 0 where
   pub told : (m : List ℕ) → length m ≡ len → r ≡ refusal (stateOf b m) e

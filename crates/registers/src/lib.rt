@@ -12,7 +12,7 @@ mod bitwise;
 mod fieldwise;
 
 // What is read at an offset; 0 where there is no register.
-pub fn read_at(b: Board, o: u32) -> u32
+pub fn register_at(b: Board, o: u32) -> u32
     ensures { λ r. ⌜ Told (readAt (cappedBoard b) o) r ⌝ }
 {
     if o == 0 {

@@ -1,3 +1,3 @@
 -- What the functions' proofs cite; each file opens with what it shows.
-pub mod Flags
+pub mod Casts
 pub mod Unique

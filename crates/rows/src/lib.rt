@@ -3,7 +3,7 @@
 ghost use mathlib.Core.Path.{_≡_};
 ghost use lib.ListN.{length};
 ghost use lib.Seq.{sets};
-ghost use Rattle.layout.specs.Layout.{rowOf};
+ghost use Rattle.layout.specs.Layout.{boardRow};
 ghost use Rattle.rows.specs.Rows.{headRow, controlRow, modesRow, clockRow, placesRow};
 ghost use Rattle.rows.specs.Promises.{Put};
 use rules::Board;
@@ -104,7 +104,7 @@ fn put_places(o: Outputs, request: bool, r: Ring, row: &mut [u32])
 
 fn put_whole(b: Board, row: &mut [u32])
     requires { ⌜ length (now row) ≡ 55 ⌝ }
-    ensures { λ _. ⌜ now (row .exit) ≡ rowOf b ⌝ }
+    ensures { λ _. ⌜ now (row .exit) ≡ boardRow b ⌝ }
 {
     let core = b.core;
     put_head(core.powered, core.options, b.size, row);

@@ -22,11 +22,11 @@ pub data Op : Type 0 where
 
 -- 01: "load fate (0 none, 1 stored, 2 lost to full, 3 lost to closed)"
 pub data Fate : Type 0 where
-  none stored lostToFull lostToClosed : Fate
+  none wasStored lostToFull lostToClosed : Fate
 
 abbrev pub fateNumber : Fate → ℕ
 fateNumber none = 0
-fateNumber stored = 1
+fateNumber wasStored = 1
 fateNumber lostToFull = 2
 fateNumber lostToClosed = 3
 

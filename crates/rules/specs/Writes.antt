@@ -12,7 +12,7 @@ use Rattle.rules.specs.Types.{Options, Control, Mode, Calibration, Burst
 use Rattle.rules.specs.Bits.{bit}
 use Rattle.rules.specs.Record.{valueSpan, channels}
 use Rattle.rules.specs.Parts.{noBurst, noLoad, noLoss, withControl, withMode, withCalibration, withClock, withBurst, withLoad, withLost, withOutputs, withCursor}
-use Rattle.rules.specs.Clocks.{clear, store, keep, none, stored, lostToFull, lostToClosed, Play, only, closed, onOutside}
+use Rattle.rules.specs.Clocks.{clear, store, keep, none, wasStored, lostToFull, lostToClosed, Play, only, closed, onOutside}
 
 -- ---- Initialise
 
@@ -155,7 +155,7 @@ unfoldable pub writeData : Core → Bool → ℕ → Play
 writeData c full v =
     cond (closed c) (record { core = withLost (record { full = c .lost .full; closed = true }) c; op = keep; moved = 0; fate = lostToClosed })
     (cond full (record { core = withLost (record { full = true; closed = c .lost .closed }) c; op = keep; moved = 0; fate = lostToFull })
-    (record { core = c; op = store (v % valueSpan); moved = 0; fate = stored }))
+    (record { core = c; op = store (v % valueSpan); moved = 0; fate = wasStored }))
 
 -- ---- Every offset
 

@@ -1,9 +1,6 @@
 -- Each promise says what every part of the outcome equals: two that do are equal.
 use Rattle.rules.proofs.Equal.{determined}
-use Rattle.run.specs.Unique.{Tells-unique, Advances-unique, Runs-unique}
-
-pub tells-unique : Tells-unique
-tells-unique s c r r′ p q = determined (p .told) (q .told)
+use Rattle.run.specs.Unique.{Advances-unique, Runs-unique}
 
 pub advances-unique : Advances-unique
 advances-unique s c b m r r′ n n′ p q =

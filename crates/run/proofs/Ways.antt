@@ -34,9 +34,9 @@ abbrev placeIn : Ahead → ℕ
 placeIn (Found e c) = c .place
 placeIn (Over x) = 0
 
-abbrev endIn : Ahead → End
-endIn (Found e c) = File
-endIn (Over x) = x
+abbrev endAhead : Ahead → End
+endAhead (Found e c) = File
+endAhead (Over x) = x
 
 got : (i : Item) (e : Event) (after : Cursor) → aheadOf i ≡ Found e after → i ≡ Got e (after .place)
 got (Got d n) e after h = λ j. Got (eventIn (h j)) (placeIn (h j))
@@ -44,7 +44,7 @@ got (over x) e after h = absurd (false≢true (ap isFound h))
 
 ended : (i : Item) (x : End) → aheadOf i ≡ Over x → i ≡ over x
 ended (Got d n) x h = absurd (true≢false (ap isFound h))
-ended (over y) x h = λ j. over (endIn (h j))
+ended (over y) x h = λ j. over (endAhead (h j))
 
 pub event-stood : (s : List ℕ) (c after : Cursor) (e : Event) → found s c ≡ Found e after → itemAt s (c .place) ≡ Got e (after .place)
 event-stood s c after e = got (itemAt s (c .place)) e after

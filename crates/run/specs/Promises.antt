@@ -1,4 +1,4 @@
--- The promises of the public functions: each fixes every outcome, the sample memory too.
+-- The promises of the public functions: each fixes every outcome, the sample memory too. That of `next` is `Told` of rules/specs/Told.antt.
 use Prim.Native.Nat.{ℕ}
 use mathlib.Core.Path.{_≡_}
 use mathlib.Core.List.{List}
@@ -7,14 +7,9 @@ use Rattle.rules.specs.Record.{stateOf, start}
 use Rattle.rules.specs.Session.{after}
 use Rattle.files.specs.File.{session}
 use Rattle.run.specs.declared.Cursor.{Cursor}
-use Rattle.run.specs.declared.Ahead.{Ahead}
 use Rattle.run.specs.declared.Advanced.{Advanced}
 use Rattle.run.specs.declared.Ran.{Ran}
-use Rattle.run.specs.Run.{found, advanced}
-
--- what stands in the file s at the cursor
-pub record Tells (s : List ℕ) (c : Cursor) (r : Ahead) : Type 0 where
-  pub told : r ≡ found s c
+use Rattle.run.specs.Run.{advanced}
 
 -- one record of the file s
 pub record Advances (s : List ℕ) (c : Cursor) (b : Board) (m : List ℕ) (r : Advanced) (m′ : List ℕ) : Type 0 where

@@ -4,13 +4,9 @@ use mathlib.Core.Path.{_≡_}
 use mathlib.Core.List.{List}
 use Rattle.rules.specs.declared.Board.{Board}
 use Rattle.run.specs.declared.Cursor.{Cursor}
-use Rattle.run.specs.declared.Ahead.{Ahead}
 use Rattle.run.specs.declared.Advanced.{Advanced}
 use Rattle.run.specs.declared.Ran.{Ran}
-use Rattle.run.specs.Promises.{Tells, Advances, Runs}
-
-abbrev pub Tells-unique : Type 0
-Tells-unique = (s : List ℕ) (c : Cursor) (r r′ : Ahead) → Tells s c r → Tells s c r′ → r ≡ r′
+use Rattle.run.specs.Promises.{Advances, Runs}
 
 abbrev pub Advances-unique : Type 0
 Advances-unique =

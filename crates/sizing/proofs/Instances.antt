@@ -30,12 +30,12 @@ unfolding numbered
 loads-fit v zero h = none
 loads-fit v (suc n) h = next {e = load v} (lit< tt, omega (arith, h)) (loads-fit (v + 1) n (omega (arith, h)))
 
-abbrev script : ℕ → ℕ → List Event
-script d n = fit d ∷ bor 0x2F ∷ loads n
+abbrev loadScript : ℕ → ℕ → List Event
+loadScript d n = fit d ∷ bor 0x2F ∷ loads n
 
-script-read : (d n : ℕ) → d < 16 → n < 100 → session (fileOf (script d n)) ≡ record { events = script d n; end = File }
+script-read : (d n : ℕ) → d < 16 → n < 100 → session (fileOf (loadScript d n)) ≡ record { events = loadScript d n; end = File }
 script-read d n h l =
-    file-read (script d n)
+    file-read (loadScript d n)
     (next {e = fit d} (omega (arith, h), lit< tt, lit< tt, lit< tt, lit< tt) (next {e = bor 0x2F} (lit< tt, lit< tt) (loads-fit 1 n (omega (arith, l)))))
 
 -- ---- Their answers
@@ -50,14 +50,14 @@ module _ (s m : List ℕ) (es : List Event) (read : session s ≡ record { event
   unfolding sizeCode
   code-of h = λ i. cond (eqb (h i) 0) (lowest ((read i) .events) m) 0
 
-seventeen-read : session seventeen ≡ record { events = script 2 17; end = File }
+seventeen-read : session seventeen ≡ record { events = loadScript 2 17; end = File }
 seventeen-read = script-read 2 17 (omega arith) (omega arith)
 
-seventeen-lowest : lowest (script 2 17) lent ≡ 2
+seventeen-lowest : lowest (loadScript 2 17) lent ≡ 2
 unfolding numbered sized sizedAll losesNothing replays playsInTurn lowestFrom lowest rules-open
 seventeen-lowest = refl
 
-nine-lowest : lowest (script 0 9) lent ≡ 16
+nine-lowest : lowest (loadScript 0 9) lent ≡ 16
 unfolding numbered sized sizedAll losesNothing replays playsInTurn lowestFrom lowest rules-open
 nine-lowest = refl
 
@@ -70,7 +70,7 @@ code-two = code-of seventeen lent _ seventeen-read refused-not ∙ seventeen-low
 refused-nine : sizeRefusal nine lent ≡ 19
 refused-nine = refusal-of nine lent _ (script-read 0 9 (omega arith) (omega arith)) ∙ ap (λ (k : ℕ). cond (ltb k codes) 0 19) nine-lowest
 
-eight-stored : stored (after (start lent) (take 10 (sizedAll 2 (script 2 17)))) ≡ 1 ∷ 2 ∷ 3 ∷ 4 ∷ 5 ∷ 6 ∷ 7 ∷ 8 ∷ []
+eight-stored : stored (after (start lent) (take 10 (sizedAll 2 (loadScript 2 17)))) ≡ 1 ∷ 2 ∷ 3 ∷ 4 ∷ 5 ∷ 6 ∷ 7 ∷ 8 ∷ []
 unfolding numbered sized sizedAll rules-open
 eight-stored = refl
 

@@ -12,7 +12,7 @@ use Rattle.files.specs.File.{session, faultNumber}
 use Rattle.sizing.specs.Smallest.{replays, codes, sizeRefusal, sizeCode}
 use Rattle.sizing.specs.Theorems.{Plays, Loses}
 use Rattle.sizing.specs.Laws.{SizeGiven, badFile, noSize, smallest, Size-exactly, Memory-left}
-use Rattle.sizing.proofs.Sizes.{size-cases, not-both-ends, one-fault, codeFound, found-plays, lower-loses, none-found}
+use Rattle.sizing.proofs.Answered.{size-cases, not-both-ends, one-fault, codeFound, found-plays, lower-loses, none-found}
 use Rattle.sizing.proofs.Theorems.{fault-other}
 
 -- ---- Refusals and codes

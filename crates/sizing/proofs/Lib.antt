@@ -2,7 +2,7 @@
 pub mod Coded
 pub mod Higher
 pub mod Lowest
-pub mod Sizes
+pub mod Answered
 pub mod Theorems
 pub mod Laws
 pub mod Examples

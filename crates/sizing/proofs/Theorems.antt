@@ -13,7 +13,7 @@ use Rattle.demand3.specs.Demand3.{Agree}
 use Rattle.sizing.specs.Smallest.{codes, sizeRefusal, sizeCode}
 use Rattle.sizing.specs.Theorems.{eventsWith, Plays, Loses, Named-plays, Lower-lose, None-plays, Higher-play}
 use Rattle.sizing.proofs.Higher.{replays-agree, higher-plays}
-use Rattle.sizing.proofs.Sizes.{size-cases, not-both-ends, codeFound, found-plays, lower-loses, none-found}
+use Rattle.sizing.proofs.Answered.{size-cases, not-both-ends, codeFound, found-plays, lower-loses, none-found}
 
 -- a fault's number is neither 0 nor 19
 pub fault-other : (why : Fault) → (faultNumber why ≡ 0 → ⊥) × (faultNumber why ≡ 19 → ⊥)

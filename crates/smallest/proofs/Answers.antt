@@ -9,7 +9,7 @@ use Rattle.files.specs.declared.End.the-variants.{File, Refused}
 use Rattle.files.specs.File.{session, faultNumber}
 use Rattle.rules.proofs.Choice.{cond-true, cond-false}
 use Rattle.sizing.specs.Smallest.{replays, codes, lowest, replayed}
-use Rattle.sizing.proofs.Sizes.{size-cases, not-both-ends, one-fault}
+use Rattle.sizing.proofs.Answered.{size-cases, not-both-ends, one-fault}
 use Rattle.smallest.specs.Replaying.{LowestTold, answerOf}
 use Rattle.smallest.specs.Promises.{SizeNamed}
 

@@ -8,8 +8,8 @@ use crate::replay::lowest_code;
 use files::End;
 use kinds::fault_number;
 
-mod coded;
 mod replay;
+mod sized;
 
 // The refusal number, 0 where there is none, and the size code that is named.
 pub struct Smallest {

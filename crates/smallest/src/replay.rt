@@ -3,7 +3,7 @@ ghost use Prim.Native.Nat.{_<_};
 ghost use mathlib.Core.Path.{_≡_};
 ghost use Rattle.files.specs.File.{session};
 ghost use Rattle.smallest.specs.Replaying.{ReplayTold, LowestTold};
-use crate::coded::coded;
+use crate::sized::sized;
 use board::step;
 use files::End;
 use record::unpowered;
@@ -41,7 +41,7 @@ fn replay(s: &[u8], memory: &mut [u32], code: u32) -> bool
         let n = next(s, c);
         match n {
             Ahead::Found(e, after) => {
-                let r = step(b, memory, coded(code, e));
+                let r = step(b, memory, sized(code, e));
                 b = r.board;
                 let answer = r.answer;
                 whole = whole & (answer.fate != 2);

@@ -1,3 +1,3 @@
 -- What the functions' proofs cite, and that what the exported one promises determines its outcome.
-pub mod Numbers
+pub mod Threes
 pub mod Unique

@@ -14,7 +14,7 @@ use Rattle.voltage.specs.Extremes.{lesser, greater, picked, lastOf}
 use Rattle.voltage.specs.Table.{extremesOf}
 use Rattle.voltage.specs.Laws.{OneOf, Bounds}
 use Rattle.voltage.proofs.Lists.{Each, each-parted, each-also}
-use Rattle.voltage.proofs.Numbers.{Height, lt-heights, le-heights}
+use Rattle.voltage.proofs.Floats.{Height, lt-heights, le-heights}
 
 -- volts that have a height
 abbrev pub High : Float → Type 0

@@ -10,14 +10,14 @@ use Rattle.rules.specs.Record.{State}
 use Rattle.rules.specs.Step.{Outcome, step}
 use Rattle.rules.specs.Session.{outcomes, after}
 use Rattle.rules.proofs.Choice.{either, cond-true}
-use Rattle.voltage.specs.Counting.{Counted, nothing, freshly, also, isPowerUp, startsAfresh, count, counted}
+use Rattle.voltage.specs.Counting.{Counted, nothingCounted, freshly, also, isPowerUp, startsAfresh, countEvent, counted}
 use Rattle.voltage.specs.Table.{powerRefusal}
-use Rattle.voltage.specs.Laws.{Accepted, NoneAccepted, levelsAfter, Counts-since, Counts-none}
+use Rattle.voltage.specs.Laws.{UpAccepted, NoneAccepted, levelsAfter, Counts-since, Counts-none}
 use Rattle.voltage.proofs.Playing.{up-fresh}
 
 -- ---- An event that starts nothing afresh
 
-goes-on : (s : State) (e : Event) → ((x : Settings) → e ≡ powerUp x → ¬ Accepted s x) → startsAfresh e (step s e) ≡ false
+goes-on : (s : State) (e : Event) → ((x : Settings) → e ≡ powerUp x → ¬ UpAccepted s x) → startsAfresh e (step s e) ≡ false
 unfolding isPowerUp
 goes-on s (powerUp x) n = ne-eqb _ 0 (n x refl)
 goes-on s (write a v) n = refl
@@ -32,31 +32,31 @@ none-later : (s : State) (e : Event) (es : List Event) → NoneAccepted s (e ∷
 unfolding after
 none-later s e es n before later x h = n (e ∷ before) later x (ap (λ (ds : List Event). e ∷ ds) h)
 
-abbrev levelsOf : Outcome → List ℕ
-levelsOf o = o .state .board .core .outputs .levels
+abbrev endLevels : Outcome → List ℕ
+endLevels o = o .state .board .core .outputs .levels
 
-count-on : (e : Event) (o : Outcome) (w : Counted) → startsAfresh e o ≡ false → count e o w ≡ record { range = w .range; levels = also (levelsOf o) (w .levels) }
-unfolding count
+count-on : (e : Event) (o : Outcome) (w : Counted) → startsAfresh e o ≡ false → countEvent e o w ≡ record { range = w .range; levels = also (endLevels o) (w .levels) }
+unfolding countEvent
 count-on e o w h = rw h
 
-count-fresh : (e : Event) (o : Outcome) (w : Counted) → startsAfresh e o ≡ true → count e o w ≡ freshly (o .state .board)
-unfolding count
+count-fresh : (e : Event) (o : Outcome) (w : Counted) → startsAfresh e o ≡ true → countEvent e o w ≡ freshly (o .state .board)
+unfolding countEvent
 count-fresh e o w h = cond-true _ _ _ h
 
-count-up : (s : State) (x : Settings) (w : Counted) → Accepted s x
-    → count (powerUp x) (step s (powerUp x)) w ≡ record { range = x .range; levels = levelsOf (step s (powerUp x)) ∷ [] }
+count-up : (s : State) (x : Settings) (w : Counted) → UpAccepted s x
+    → countEvent (powerUp x) (step s (powerUp x)) w ≡ record { range = x .range; levels = endLevels (step s (powerUp x)) ∷ [] }
 unfolding isPowerUp
 count-up s x w h =
     count-fresh (powerUp x) (step s (powerUp x)) w (eq-eqb _ 0 h)
-    ∙ (λ i. record { range = (up-fresh s x h) .0 i; levels = levelsOf (step s (powerUp x)) ∷ [] })
+    ∙ (λ i. record { range = (up-fresh s x h) .0 i; levels = endLevels (step s (powerUp x)) ∷ [] })
 
 -- ---- The laws
 
-none-counted : (s : State) (es : List Event) → NoneAccepted s es → counted nothing s es ≡ nothing
+none-counted : (s : State) (es : List Event) → NoneAccepted s es → counted nothingCounted s es ≡ nothingCounted
 unfolding counted also
 none-counted s [] n = refl
 none-counted s (e ∷ es) n =
-    ap (λ (w : Counted). counted w ((step s e) .state) es) (count-on e (step s e) nothing (none-first s e es n))
+    ap (λ (w : Counted). counted w ((step s e) .state) es) (count-on e (step s e) nothingCounted (none-first s e es n))
     ∙ none-counted ((step s e) .state) es (none-later s e es n)
 
 pub counts-none : Counts-none
@@ -75,7 +75,7 @@ unfolding counted after outcomes
 counts-since w s [] later x a n =
     ap (λ (v : Counted). counted v ((step s (powerUp x)) .state) later) (count-up s x w a)
     ∙ later-counted (x .range) _ [] ((step s (powerUp x)) .state) later n
-counts-since w s (e ∷ before) later x a n = counts-since (count e (step s e) w) ((step s e) .state) before later x a n
+counts-since w s (e ∷ before) later x a n = counts-since (countEvent e (step s e) w) ((step s e) .state) before later x a n
 
 -- ---- Some power-up is accepted, or none is
 
@@ -84,11 +84,11 @@ pub record Powered (s : State) (es : List Event) : Type 0 where
   pub later : List Event
   pub settings : Settings
   pub parted : es ≡ before ++ (powerUp settings ∷ later)
-  pub accepted : Accepted (after s before) settings
+  pub accepted : UpAccepted (after s before) settings
 
-abbrev isEmpty : List Event → Bool
-isEmpty [] = true
-isEmpty (e ∷ es) = false
+abbrev noEvents : List Event → Bool
+noEvents [] = true
+noEvents (e ∷ es) = false
 
 abbrev firstIn : List Event → Event
 firstIn [] = signal tick
@@ -98,14 +98,14 @@ abbrev restIn : List Event → List Event
 restIn [] = []
 restIn (e ∷ es) = es
 
-pub is-up : (s : State) (e : Event) → startsAfresh e (step s e) ≡ true → (x : Settings) × (e ≡ powerUp x) × Accepted s x
+pub is-up : (s : State) (e : Event) → startsAfresh e (step s e) ≡ true → (x : Settings) × (e ≡ powerUp x) × UpAccepted s x
 unfolding isPowerUp
 is-up s (powerUp x) h = (x, refl, eqb-true _ 0 h)
 is-up s (write a v) h = absurd (false≢true h)
 is-up s (read a) h = absurd (false≢true h)
 is-up s (signal x) h = absurd (false≢true h)
 
-not-up : (s : State) (e : Event) (x : Settings) → startsAfresh e (step s e) ≡ false → e ≡ powerUp x → ¬ Accepted s x
+not-up : (s : State) (e : Event) (x : Settings) → startsAfresh e (step s e) ≡ false → e ≡ powerUp x → ¬ UpAccepted s x
 unfolding isPowerUp
 not-up s e x h q a = true≢false (sym (eq-eqb _ 0 a) ∙ subst (λ (d : Event). startsAfresh d (step s d) ≡ false) q h)
 
@@ -114,12 +114,12 @@ none-more : (s : State) (e : Event) (es : List Event) → startsAfresh e (step s
 unfolding after
 none-more s e es h n [] later x q = not-up s e x h (ap firstIn q)
 none-more s e es h n (d ∷ before) later x q =
-    subst (λ (c : Event). ¬ Accepted (after ((step s c) .state) before) x) (ap firstIn q) (n before later x (ap restIn q))
+    subst (λ (c : Event). ¬ UpAccepted (after ((step s c) .state) before) x) (ap firstIn q) (n before later x (ap restIn q))
 
 -- no list with an event in it is empty
 parted-some : (before later : List Event) (e : Event) → _≡_ {A = List Event} [] (before ++ (e ∷ later)) → ⊥
-parted-some [] later e h = true≢false (ap isEmpty h)
-parted-some (b ∷ before) later e h = true≢false (ap isEmpty h)
+parted-some [] later e h = true≢false (ap noEvents h)
+parted-some (b ∷ before) later e h = true≢false (ap noEvents h)
 
 pub powered-or-not : (s : State) (es : List Event) → NoneAccepted s es ⊎ Powered s es
 unfolding after
@@ -156,18 +156,18 @@ unfolding also
 also-some x [] h = h
 also-some x (y ∷ ys) h = (x, y ∷ ys, refl)
 
-count-some : (e : Event) (o : Outcome) (w : Counted) → Some (w .levels) → Some ((count e o w) .levels)
-unfolding count
-count-some e o w h = either (λ (v : Counted). Some (v .levels)) (startsAfresh e o) (_, _, refl) (also-some (levelsOf o) (w .levels) h)
+count-some : (e : Event) (o : Outcome) (w : Counted) → Some (w .levels) → Some ((countEvent e o w) .levels)
+unfolding countEvent
+count-some e o w h = either (λ (v : Counted). Some (v .levels)) (startsAfresh e o) (_, _, refl) (also-some (endLevels o) (w .levels) h)
 
 counted-on : (w : Counted) (s : State) (es : List Event) → Some (w .levels) → Some ((counted w s es) .levels)
 unfolding counted
 counted-on w s [] h = h
-counted-on w s (e ∷ es) h = counted-on (count e (step s e) w) ((step s e) .state) es (count-some e (step s e) w h)
+counted-on w s (e ∷ es) h = counted-on (countEvent e (step s e) w) ((step s e) .state) es (count-some e (step s e) w h)
 
-pub counted-some : (w : Counted) (s : State) (before later : List Event) (x : Settings) → Accepted (after s before) x
+pub counted-some : (w : Counted) (s : State) (before later : List Event) (x : Settings) → UpAccepted (after s before) x
     → Some ((counted w s (before ++ (powerUp x ∷ later))) .levels)
 unfolding counted after
 counted-some w s [] later x a =
     counted-on _ ((step s (powerUp x)) .state) later (_, _, ap (λ (v : Counted). v .levels) (count-up s x w a))
-counted-some w s (e ∷ before) later x a = counted-some (count e (step s e) w) ((step s e) .state) before later x a
+counted-some w s (e ∷ before) later x a = counted-some (countEvent e (step s e) w) ((step s e) .state) before later x a

@@ -12,7 +12,7 @@ use lib.Ieee.Exact.{HasValue}
 use Rattle.rules.proofs.Choice.{either}
 use Rattle.voltage.specs.Volts.{factor, share, voltsOf, zeroVolts}
 use Rattle.voltage.specs.Laws.{Exact, Volts-exact}
-use Rattle.voltage.proofs.Numbers.{Height, over, under, not-zero, share-value, minus-value}
+use Rattle.voltage.proofs.Floats.{Height, over, under, not-zero, share-value, minus-value}
 
 -- ---- Sizes
 

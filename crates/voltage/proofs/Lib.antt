@@ -1,6 +1,6 @@
 -- The laws of specs/, and what the crates above cite; each file opens with what it shows.
 pub mod Lists
-pub mod Numbers
+pub mod Floats
 pub mod Exact
 pub mod Playing
 pub mod Counting

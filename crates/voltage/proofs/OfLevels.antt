@@ -14,10 +14,10 @@ use Rattle.rules.proofs.Refusals.{power-up-accepted}
 use Rattle.files.specs.File.{session}
 use Rattle.voltage.specs.declared.Extremes.{Extremes}
 use Rattle.voltage.specs.Volts.{factor}
-use Rattle.voltage.specs.Counting.{Counted, nothing, startsAfresh, count, counted}
+use Rattle.voltage.specs.Counting.{Counted, nothingCounted, startsAfresh, countEvent, counted}
 use Rattle.voltage.specs.Extremes.{lastOf}
 use Rattle.voltage.specs.Table.{extremesOf, channel, countedIn, powerRefusal}
-use Rattle.voltage.specs.Laws.{Accepted, Exact, Factor, five, ten, twenty, OfLevel, Table-exact, zeros}
+use Rattle.voltage.specs.Laws.{UpAccepted, Exact, Factor, five, ten, twenty, OfLevel, Table-exact, zeros}
 use Rattle.voltage.proofs.Lists.{Each, each-parted, each-map}
 use Rattle.voltage.proofs.Exact.{exactly, factors}
 use Rattle.voltage.proofs.Playing.{Sixteen, up-fresh}
@@ -30,15 +30,15 @@ use Rattle.voltage.proofs.Tables.{voltsIn, volts-high, session-sure, ac
 abbrev Ranged : Counted → Type 0
 Ranged w = powerRefusal (w .levels) ≡ 0 → w .range ≤ 2
 
-up-ranged : (s : State) (x : Settings) → Accepted s x → (step s (powerUp x)) .state .board .core .options .range ≤ 2
+up-ranged : (s : State) (x : Settings) → UpAccepted s x → (step s (powerUp x)) .state .board .core .options .range ≤ 2
 up-ranged s x a =
     subst (λ (n : ℕ). n ≤ 2) (sym ((up-fresh s x a) .0)) ((power-up-accepted s x (sym (refusal-answered s (powerUp x)) ∙ a)) .0 .range)
 
-count-ranged : (s : State) (e : Event) (w : Counted) → Ranged w → Ranged (count e (step s e) w)
-unfolding count
+count-ranged : (s : State) (e : Event) (w : Counted) → Ranged w → Ranged (countEvent e (step s e) w)
+unfolding countEvent
 count-ranged s e w h = cases Ranged (startsAfresh e (step s e)) (λ f _. up (is-up s e f)) (λ _ z. h (also-counted _ (w .levels) z))
   where
-    up : (x : Settings) × (e ≡ powerUp x) × Accepted s x → (step s e) .state .board .core .options .range ≤ 2
+    up : (x : Settings) × (e ≡ powerUp x) × UpAccepted s x → (step s e) .state .board .core .options .range ≤ 2
     up (x, q, a) = subst (λ (d : Event). (step s d) .state .board .core .options .range ≤ 2) (sym q) (up-ranged s x a)
 
 counted-ranged : (w : Counted) (s : State) (es : List Event) → Ranged w → Ranged (counted w s es)
@@ -48,7 +48,7 @@ counted-ranged w s (e ∷ es) h = counted-ranged _ ((step s e) .state) es (count
 
 session-ranged : (s m : List ℕ) → Ranged (countedIn s m)
 unfolding countedIn
-session-ranged s m = counted-ranged nothing (start m) ((session s) .events) (λ z. absurd (omega (arith, z)))
+session-ranged s m = counted-ranged nothingCounted (start m) ((session s) .events) (λ z. absurd (omega (arith, z)))
 
 factor-of : (r : ℕ) → r ≤ 2 → (t : ℕ) × Factor r t × (factor r ≡ t)
 factor-of zero l = (5, five, factors .0)
@@ -93,8 +93,8 @@ module _ (w : Counted) (k : ℕ) (small : w .range ≤ 2) where
 
 -- ---- The law
 
-abbrev numbers : Extremes → List Float
-numbers e = e .lowest ∷ e .highest ∷ e .last ∷ []
+abbrev threeNumbers : Extremes → List Float
+threeNumbers e = e .lowest ∷ e .highest ∷ e .last ∷ []
 
 pub table-exact : Table-exact
 unfolding channel
@@ -104,5 +104,5 @@ table-exact s m k x l h o =
     let small = session-ranged s m (ap powerRefusal (c .2)) in
     let three = three-of-level w k small (c .0) (c .1) (c .2) (subst (Each Sixteen) (c .2) ((session-sure s m) .sixteen)) in
     let e = ap (λ (xs : List Extremes). getD xs k zeros) (accepted-channels s m h) ∙ channel-at w k zeros l in
-    let whole = subst (λ (xs : List (List ℕ)). Each (OfLevel w k) (numbers (extremesOf (map (voltsIn (w .range) k) xs)))) (sym (c .2)) three in
-    each-parted (OfLevel w k) _ (o .0) (o .1) x (o .2) (subst (λ (z : Extremes). Each (OfLevel w k) (numbers z)) (sym e) whole)
+    let whole = subst (λ (xs : List (List ℕ)). Each (OfLevel w k) (threeNumbers (extremesOf (map (voltsIn (w .range) k) xs)))) (sym (c .2)) three in
+    each-parted (OfLevel w k) _ (o .0) (o .1) x (o .2) (subst (λ (z : Extremes). Each (OfLevel w k) (threeNumbers z)) (sym e) whole)

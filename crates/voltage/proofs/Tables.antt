@@ -21,7 +21,7 @@ use Rattle.files.specs.declared.End.the-variants.{File, Refused}
 use Rattle.files.specs.File.{session, verdict, faultNumber}
 use Rattle.voltage.specs.declared.Extremes.{Extremes}
 use Rattle.voltage.specs.Volts.{voltsOf, zeroVolts}
-use Rattle.voltage.specs.Counting.{Counted, nothing, also, startsAfresh, count, counted}
+use Rattle.voltage.specs.Counting.{Counted, nothingCounted, also, startsAfresh, countEvent, counted}
 use Rattle.voltage.specs.Extremes.{picked, lastOf}
 use Rattle.voltage.specs.Table.{voltsAt, extremesOf, channel, channelsFrom, channelsOf, countedIn, powerRefusal, tableRefusal, tableChannels}
 use Rattle.voltage.specs.Laws.{NoneAccepted, TableGiven, badFile, noPower, done, Table-exactly, zeros, Table-refused, OneOf, Bounds, Table-bounds, Zero-positive}
@@ -56,8 +56,8 @@ unfolding countedIn
 given-is s m n (badFile why p h) = file-refused s m why p h
 given-is s m n (noPower h k) = file-ended s m h ∙ ap (λ (w : Counted). powerRefusal (w .levels)) (counts-none (start m) ((session s) .events) k)
 given-is s m n (done before later x h e a) =
-    let c = counted-some nothing (start m) before later x a in
-    file-ended s m h ∙ ap (λ (es : List Event). powerRefusal ((counted nothing (start m) es) .levels)) e ∙ ap powerRefusal (c .2)
+    let c = counted-some nothingCounted (start m) before later x a in
+    file-ended s m h ∙ ap (λ (es : List Event). powerRefusal ((counted nothingCounted (start m) es) .levels)) e ∙ ap powerRefusal (c .2)
 
 some-given : (s m : List ℕ) → (n : ℕ) × TableGiven s m n
 some-given s m = go ((session s) .end) refl (powered-or-not (start m) ((session s) .events))
@@ -72,20 +72,20 @@ pub table-exactly : Table-exactly
 table-exactly s m n = (λ h. let g = some-given s m in subst (TableGiven s m) (sym (given-is s m (g .0) (g .1)) ∙ h) (g .1), given-is s m n)
 
 -- the channels by the refusal
-pub channels-by : (s m : List ℕ) (n : ℕ) → tableRefusal s m ≡ n → tableChannels s m ≡ channelsOf (cond (eqb n 0) (countedIn s m) nothing)
+pub channels-by : (s m : List ℕ) (n : ℕ) → tableRefusal s m ≡ n → tableChannels s m ≡ channelsOf (cond (eqb n 0) (countedIn s m) nothingCounted)
 unfolding tableChannels
-channels-by s m n h = ap (λ (k : ℕ). channelsOf (cond (eqb k 0) (countedIn s m) nothing)) h
+channels-by s m n h = ap (λ (k : ℕ). channelsOf (cond (eqb k 0) (countedIn s m) nothingCounted)) h
 
 -- ---- Refused: zeros
 
-none-zeros : (n k : ℕ) → channelsFrom n k nothing ≡ replicate n zeros
+none-zeros : (n k : ℕ) → channelsFrom n k nothingCounted ≡ replicate n zeros
 unfolding channelsFrom channel picked lastOf
 none-zeros zero k = refl
 none-zeros (suc n) k = ap (λ (xs : List Extremes). zeros ∷ xs) (none-zeros n (suc k))
 
 pub table-refused : Table-refused
 table-refused s m h =
-    channels-by s m _ refl ∙ ap (λ (t : Bool). channelsOf (cond t (countedIn s m) nothing)) (ne-eqb _ 0 h) ∙ none-zeros 20 0
+    channels-by s m _ refl ∙ ap (λ (t : Bool). channelsOf (cond t (countedIn s m) nothingCounted)) (ne-eqb _ 0 h) ∙ none-zeros 20 0
 
 -- ---- Not refused: something counted, and the table is of that
 
@@ -128,14 +128,14 @@ event-sixteen s e h = go (startsAfresh e (step s e)) refl
     go false f = (h .0, event-holds (h .0) s e f (h .1))
 
 -- the earliest of them has all its channels at midrange
-abbrev pub Started : List (List ℕ) → Type 0
-Started [] = Unit {0}
-Started (x ∷ []) = x ≡ replicate 20 0x8000
-Started (x ∷ y ∷ ys) = Started (y ∷ ys)
+abbrev pub FromMidrange : List (List ℕ) → Type 0
+FromMidrange [] = Unit {0}
+FromMidrange (x ∷ []) = x ≡ replicate 20 0x8000
+FromMidrange (x ∷ y ∷ ys) = FromMidrange (y ∷ ys)
 
 pub record Sure (xs : List (List ℕ)) : Type 0 where
   pub sixteen : Each Sixteen xs
-  pub started : Started xs
+  pub started : FromMidrange xs
 
 also-sure : (x : List ℕ) (xs : List (List ℕ)) → Sixteen x → Sure xs → Sure (also x xs)
 unfolding also
@@ -143,8 +143,8 @@ also-sure x [] h k = k
 also-sure x (y ∷ ys) h k = record { sixteen = (h, k .sixteen); started = k .started }
 
 count-sure : (s : State) (e : Event) (w : Counted) → Sixteen ((step s e) .state .board .core .outputs .levels) → Sure (w .levels)
-    → Sure ((count e (step s e) w) .levels)
-unfolding count
+    → Sure ((countEvent e (step s e) w) .levels)
+unfolding countEvent
 count-sure s e w h k = cases (λ (v : Counted). Sure (v .levels)) (startsAfresh e (step s e)) up (λ _. also-sure _ (w .levels) h k)
   where
     up : startsAfresh e (step s e) ≡ true → Sure ((step s e) .state .board .core .outputs .levels ∷ [])
@@ -160,11 +160,11 @@ unfolding counted
 counted-sure w s [] h k = k
 counted-sure w s (e ∷ es) h k =
     let h′ = event-sixteen s e h in
-    counted-sure (count e (step s e) w) ((step s e) .state) es h′ (count-sure s e w (h′ .1 .1) k)
+    counted-sure (countEvent e (step s e) w) ((step s e) .state) es h′ (count-sure s e w (h′ .1 .1) k)
 
 pub session-sure : (s m : List ℕ) → Sure ((countedIn s m) .levels)
 unfolding countedIn
-session-sure s m = counted-sure nothing (start m) ((session s) .events) (0, start-holds) (record { sixteen = tt; started = tt })
+session-sure s m = counted-sure nothingCounted (start m) ((session s) .events) (0, start-holds) (record { sixteen = tt; started = tt })
 
 -- ---- The volts of a channel
 
@@ -174,7 +174,7 @@ voltsIn range k levels = voltsOf range (getD levels k 0)
 pub volts-high : (range k : ℕ) (x : List ℕ) → Sixteen x → High (voltsIn range k x)
 volts-high range k x h = volts-height range _ (h k)
 
-zero-among : (range k : ℕ) → k < 20 → (x : List ℕ) (xs : List (List ℕ)) → Started (x ∷ xs) → OneOf zeroVolts (map (voltsIn range k) (x ∷ xs))
+zero-among : (range k : ℕ) → k < 20 → (x : List ℕ) (xs : List (List ℕ)) → FromMidrange (x ∷ xs) → OneOf zeroVolts (map (voltsIn range k) (x ∷ xs))
 zero-among range k l x [] h =
     let e : getD x k 0 ≡ 32768 = ap (λ (ls : List ℕ). getD ls k 0) h ∙ getD-replicate 20 k 0x8000 0 l in
     ([], [], ap (λ (v : Float). v ∷ []) (ap (voltsOf range) e ∙ midrange-zero range))
@@ -229,5 +229,5 @@ pub zero-positive : Zero-positive
 unfolding tableChannels
 zero-positive s m k x o = each-parted Plain _ (o .0) (o .1) x (o .2) (entries-plain 20 0 k _ sixteen)
   where
-    sixteen : Each Sixteen ((cond (eqb (tableRefusal s m) 0) (countedIn s m) nothing) .levels)
+    sixteen : Each Sixteen ((cond (eqb (tableRefusal s m) 0) (countedIn s m) nothingCounted) .levels)
     sixteen = either (λ (w : Counted). Each Sixteen (w .levels)) (eqb (tableRefusal s m) 0) ((session-sure s m) .sixteen) tt

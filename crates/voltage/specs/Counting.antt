@@ -17,8 +17,8 @@ pub record Counted : Type 0 where
   pub levels : List (List ℕ)
 
 -- before the first accepted power-up
-abbrev pub nothing : Counted
-nothing = record { range = 0; levels = [] }
+abbrev pub nothingCounted : Counted
+nothingCounted = record { range = 0; levels = [] }
 
 -- right after an accepted power-up
 abbrev pub freshly : Board → Counted
@@ -39,11 +39,11 @@ isPowerUp (signal x) = false
 abbrev pub startsAfresh : Event → Outcome → Bool
 startsAfresh e o = isPowerUp e && eqb (o .answer .refusal) 0
 
-unfoldable pub count : Event → Outcome → Counted → Counted
-count e o w =
+unfoldable pub countEvent : Event → Outcome → Counted → Counted
+countEvent e o w =
     cond (startsAfresh e o) (freshly (o .state .board))
     (record { range = w .range; levels = also (o .state .board .core .outputs .levels) (w .levels) })
 
 unfoldable pub counted : Counted → State → List Event → Counted
 counted w s [] = w
-counted w s (e ∷ es) = counted (count e (step s e) w) ((step s e) .state) es
+counted w s (e ∷ es) = counted (countEvent e (step s e) w) ((step s e) .state) es

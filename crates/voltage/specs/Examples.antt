@@ -8,7 +8,7 @@ use Rattle.rules.specs.Bits.{flag}
 use Rattle.rules.specs.Bench.{bcr, mask, bor, load, clk, Look, bench, _shows_, Case, AllCases}
 use Rattle.rules.specs.Examples.{up as powerUp}
 use Rattle.voltage.specs.declared.Extremes.{Extremes}
-use Rattle.voltage.specs.Counting.{nothing, counted}
+use Rattle.voltage.specs.Counting.{nothingCounted, counted}
 use Rattle.voltage.specs.Table.{channel}
 
 -- a number of volts: 1 where it is negative and 0 where it is not, and its size times 65,536, so that 163,840 is 2.5 volts, 327,680 is 5
@@ -20,7 +20,7 @@ scaled (fin s m e) = flag s ∷ m * up e * 65536 / down e ∷ []
 
 -- at the end: lowest, highest and last of a channel
 unfoldable pub volts : ℕ → Look
-volts k es = let x : Extremes = channel (counted nothing bench es) k in scaled (x .lowest) ++ scaled (x .highest) ++ scaled (x .last)
+volts k es = let x : Extremes = channel (counted nothingCounted bench es) k in scaled (x .lowest) ++ scaled (x .highest) ++ scaled (x .last)
 
 -- ---- Events
 

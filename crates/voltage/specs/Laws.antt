@@ -26,7 +26,7 @@ use Rattle.files.specs.declared.End.the-variants.{File, Refused}
 use Rattle.files.specs.File.{session, faultNumber}
 use Rattle.voltage.specs.declared.Extremes.{Extremes}
 use Rattle.voltage.specs.Volts.{voltsOf, zeroVolts}
-use Rattle.voltage.specs.Counting.{Counted, nothing, counted}
+use Rattle.voltage.specs.Counting.{Counted, nothingCounted, counted}
 use Rattle.voltage.specs.Table.{voltsAt, countedIn, tableRefusal, tableChannels}
 
 -- ---- Volts
@@ -42,12 +42,12 @@ Volts-exact = (level : ℕ) → level < 65536 → Exact 5 level (voltsOf 0 level
 
 -- ---- What counts
 
-abbrev pub Accepted : State → Settings → Type 0
-Accepted s x = (step s (powerUp x)) .answer .refusal ≡ 0
+abbrev pub UpAccepted : State → Settings → Type 0
+UpAccepted s x = (step s (powerUp x)) .answer .refusal ≡ 0
 
 -- of the events es, from the state s on, no power-up is accepted
 abbrev pub NoneAccepted : State → List Event → Type 0
-NoneAccepted s es = (before later : List Event) (x : Settings) → es ≡ before ++ (powerUp x ∷ later) → ¬ Accepted (after s before) x
+NoneAccepted s es = (before later : List Event) (x : Settings) → es ≡ before ++ (powerUp x ∷ later) → ¬ UpAccepted (after s before) x
 
 -- the levels right after each event
 abbrev pub levelsAfter : State → List Event → List (List ℕ)
@@ -57,12 +57,12 @@ levelsAfter s es = map (λ (o : Outcome). o .state .board .core .outputs .levels
 abbrev pub Counts-since : Type 0
 Counts-since =
     (w : Counted) (s : State) (before later : List Event) (x : Settings)
-    → Accepted (after s before) x
+    → UpAccepted (after s before) x
     → NoneAccepted ((step (after s before) (powerUp x)) .state) later
     → counted w s (before ++ (powerUp x ∷ later)) ≡ record { range = x .range; levels = reverse (levelsAfter (after s before) (powerUp x ∷ later)) }
 
 abbrev pub Counts-none : Type 0
-Counts-none = (s : State) (es : List Event) → NoneAccepted s es → counted nothing s es ≡ nothing
+Counts-none = (s : State) (es : List Event) → NoneAccepted s es → counted nothingCounted s es ≡ nothingCounted
 
 -- ---- Refusals
 
@@ -74,7 +74,7 @@ pub data TableGiven (s m : List ℕ) : ℕ → Type 0 where
   done : (before later : List Event) (x : Settings)
       → (session s) .end ≡ File
       → (session s) .events ≡ before ++ (powerUp x ∷ later)
-      → Accepted (after (start m) before) x
+      → UpAccepted (after (start m) before) x
       → TableGiven s m 0
 
 abbrev pub Table-exactly : Type 0

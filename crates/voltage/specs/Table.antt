@@ -11,7 +11,7 @@ use Rattle.rules.specs.Record.{start}
 use Rattle.files.specs.File.{session, verdict}
 use Rattle.voltage.specs.declared.Extremes.{Extremes}
 use Rattle.voltage.specs.Volts.{voltsOf}
-use Rattle.voltage.specs.Counting.{Counted, nothing, counted}
+use Rattle.voltage.specs.Counting.{Counted, nothingCounted, counted}
 use Rattle.voltage.specs.Extremes.{lowestOf, highestOf, lastOf}
 
 -- ---- A channel
@@ -41,7 +41,7 @@ channelsOf w = channelsFrom 20 0 w
 
 -- what counts in a session file, run from the unpowered record over the sample memory m
 unfoldable pub countedIn : List ℕ → List ℕ → Counted
-countedIn s m = counted nothing (start m) ((session s) .events)
+countedIn s m = counted nothingCounted (start m) ((session s) .events)
 
 -- 02: "18 when the session has no accepted power-up"
 abbrev pub powerRefusal : List (List ℕ) → ℕ
@@ -56,4 +56,4 @@ tableRefusal s m =
 
 -- 02: "all of them return all zeros"
 unfoldable pub tableChannels : List ℕ → List ℕ → List Extremes
-tableChannels s m = channelsOf (cond (eqb (tableRefusal s m) 0) (countedIn s m) nothing)
+tableChannels s m = channelsOf (cond (eqb (tableRefusal s m) 0) (countedIn s m) nothingCounted)

@@ -3,5 +3,5 @@ pub mod Shares
 pub mod Entries
 pub mod Watching
 pub mod Tabling
-pub mod Ranges
+pub mod OneRange
 pub mod Unique

@@ -17,14 +17,14 @@ use Rattle.run.specs.Run.{found}
 use Rattle.run.specs.Way.{Way, Passes}
 use Rattle.run.proofs.Ways.{way-start, way-on, way-over}
 use Rattle.voltage.specs.declared.Table.{Table}
-use Rattle.voltage.specs.Counting.{Counted, nothing, count, counted}
+use Rattle.voltage.specs.Counting.{Counted, nothingCounted, countEvent, counted}
 use Rattle.voltage.specs.Table.{countedIn}
 use Rattle.volts.specs.declared.Observed.{Observed}
 use Rattle.volts.specs.Watching.{refusedTable, tableOf, closedTable}
 use Rattle.volts.specs.Observing.{Observes}
 use Rattle.volts.specs.Promises.{Tabled}
 use Rattle.volts.proofs.Watching.{closed-told}
-use Rattle.volts.proofs.Ranges.{Suits, start-suits, range-kept, suits-on}
+use Rattle.volts.proofs.OneRange.{Suits, start-suits, range-kept, suits-on}
 
 -- ---- What comes of a session
 
@@ -42,11 +42,11 @@ pub record Counts (o : Total) (a : Tally) (x : Session) : Type 0 where
   pub seen : o .seen ≡ counted (a .seen) (a .state) (x .events)
   pub end : o .end ≡ x .end
 
-abbrev onward : Tally → Event → Tally
-onward a e = record { state = (step (a .state) e) .state; seen = count e (step (a .state) e) (a .seen) }
+abbrev tallyAfter : Tally → Event → Tally
+tallyAfter a e = record { state = (step (a .state) e) .state; seen = countEvent e (step (a .state) e) (a .seen) }
 
 -- an event that is played
-tallied : (a : Tally) (e : Event) → Passes Counts a e (onward a e)
+tallied : (a : Tally) (e : Event) → Passes Counts a e (tallyAfter a e)
 unfolding after counted
 tallied a e o x g = record { state = g .state; seen = g .seen; end = g .end }
 
@@ -61,7 +61,7 @@ abbrev pub tallyOf : Board → List ℕ → Counted → Tally
 tallyOf b m w = record { state = stateOf b m; seen = w }
 
 abbrev pub OnWay : (s m : List ℕ) → Tally → Cursor → Type 0
-OnWay s m a c = Way Counts s (tallyOf unpowered m nothing) a c
+OnWay s m a c = Way Counts s (tallyOf unpowered m nothingCounted) a c
 
 -- it stands at the cursor c of the file s with the board b, its memory and the table t; m is the memory at the start
 pub record Running (s m memory : List ℕ) (b : Board) (c : Cursor) (t : Table) : Type 0 where
@@ -75,10 +75,10 @@ pub running-start : (s m : List ℕ) (b : Board) (t : Table) → b ≡ unpowered
 running-start s m b t e h =
     record {
       long = refl;
-      seen = nothing;
+      seen = nothingCounted;
       table = h;
-      suits = subst (Suits nothing) (sym e) (start-suits m);
-      way = subst (λ (x : Board). OnWay s m (tallyOf x m nothing) (record { place = 0 })) (sym e) (way-start Total Tally Counts s (tallyOf unpowered m nothing));
+      suits = subst (Suits nothingCounted) (sym e) (start-suits m);
+      way = subst (λ (x : Board). OnWay s m (tallyOf x m nothingCounted) (record { place = 0 })) (sym e) (way-start Total Tally Counts s (tallyOf unpowered m nothingCounted));
     }
 
 module _ {s m memory : List ℕ} {b : Board} {c : Cursor} {t : Table} (r : Running s m memory b c t) where
@@ -90,8 +90,8 @@ module _ {s m memory : List ℕ} {b : Board} {c : Cursor} {t : Table} (r : Runni
       → Running s m memory′ (o .board) after (o .table)
   unfolding here
   running-on e after o memory′ f p l =
-      let on = way-on Total Tally Counts s (tallyOf unpowered m nothing) here (onward here e) c after e (r .way) f (tallied here e) in
-      let w = (onward here e) .seen in
+      let on = way-on Total Tally Counts s (tallyOf unpowered m nothingCounted) here (tallyAfter here e) c after e (r .way) f (tallied here e) in
+      let w = (tallyAfter here e) .seen in
       record {
         long = l ∙ r .long;
         seen = w;
@@ -103,7 +103,7 @@ module _ {s m memory : List ℕ} {b : Board} {c : Cursor} {t : Table} (r : Runni
   pub running-over : (end : End) (x : Table) → found s c ≡ Over end → x ≡ closedTable t end → Tabled s m x memory
   unfolding here countedIn
   running-over end x f h =
-      let o = way-over Total Tally Counts s (tallyOf unpowered m nothing) here c end (record { state = here .state; seen = here .seen; end = end }) (r .way) f (totalled here end) in
+      let o = way-over Total Tally Counts s (tallyOf unpowered m nothingCounted) here c end (record { state = here .state; seen = here .seen; end = end }) (r .way) f (totalled here end) in
       let told = closed-told s m ((session s) .end) refl in
       let q : x ≡ closedTable (tableOf (countedIn s m)) ((session s) .end) = h ∙ (λ i. closedTable (r .table i) end) ∙ (λ i. closedTable (tableOf (o .seen i)) (o .end i)) in
       record {

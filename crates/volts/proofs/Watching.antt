@@ -14,11 +14,11 @@ use Rattle.files.specs.File.{session}
 use Rattle.voltage.specs.declared.Extremes.{Extremes}
 use Rattle.voltage.specs.declared.Table.{Table}
 use Rattle.voltage.specs.Volts.{voltsOf}
-use Rattle.voltage.specs.Counting.{Counted, nothing, also}
+use Rattle.voltage.specs.Counting.{Counted, nothingCounted, also}
 use Rattle.voltage.specs.Extremes.{picked, lastOf}
 use Rattle.voltage.specs.Table.{channel, channelsFrom, channelsOf, countedIn, powerRefusal, tableRefusal, tableChannels}
 use Rattle.voltage.proofs.Tables.{fault-some, file-refused, file-ended, channels-by, channel-at}
-use Rattle.volts.specs.Watching.{none, entered, AllEntered, tableOf, watched, closedTable, RecordEntered}
+use Rattle.volts.specs.Watching.{noChannel, entered, AllEntered, tableOf, watched, closedTable, RecordEntered}
 
 -- ---- One more record
 
@@ -30,12 +30,12 @@ abbrev what : ℕ → List (List ℕ) → Counted
 what r xs = record { range = r; levels = xs }
 
 -- something counted, in the record's range
-abbrev Ready : Board → Counted → Type 0
-Ready b w = (powerRefusal (w .levels) ≡ 0) × (b .core .options .range ≡ w .range)
+abbrev InStep : Board → Counted → Type 0
+InStep b w = (powerRefusal (w .levels) ≡ 0) × (b .core .options .range ≡ w .range)
 
 -- a channel's three numbers with those of one more record
 one-more : (fresh : Bool) (b : Board) (r : ℕ) (xs : List (List ℕ)) (k : ℕ)
-    → (fresh ≡ false → Ready b (what r xs))
+    → (fresh ≡ false → InStep b (what r xs))
     → entered fresh (channel (what r xs) k) (voltsOf (b .core .options .range) (getD (b .core .outputs .levels) k 0)) ≡ channel (watched fresh b (what r xs)) k
 unfolding channel picked lastOf also
 one-more true b r xs k h = refl
@@ -44,7 +44,7 @@ one-more false b r (x ∷ xs) k h =
     let v = getD (b .core .outputs .levels) k 0 in
     ap (λ (q : ℕ). entered false (channel (what r (x ∷ xs)) k) (voltsOf q v)) (h refl .1)
 
-something : (fresh : Bool) (b : Board) (r : ℕ) (xs : List (List ℕ)) → (fresh ≡ false → Ready b (what r xs))
+something : (fresh : Bool) (b : Board) (r : ℕ) (xs : List (List ℕ)) → (fresh ≡ false → InStep b (what r xs))
     → 0 ≡ powerRefusal ((watched fresh b (what r xs)) .levels)
 unfolding also
 something true b r xs h = refl
@@ -55,17 +55,17 @@ pub record-entered : (fresh : Bool) (b : Board) (ts r : List Extremes)
     → AllEntered fresh ts (b .core .options .range) (b .core .outputs .levels) r
     → RecordEntered fresh b ts (record { refusal = 0; channels = r })
 record-entered fresh b ts r a w e h =
-    let q = ext-getD none r (channelsOf (watched fresh b w)) (a .twenty ∙ sym (twenty (watched fresh b w))) (λ k l. go k (subst (λ (n : ℕ). k < n) (a .twenty) l)) in
+    let q = ext-getD noChannel r (channelsOf (watched fresh b w)) (a .twenty ∙ sym (twenty (watched fresh b w))) (λ k l. go k (subst (λ (n : ℕ). k < n) (a .twenty) l)) in
     let z = something fresh b (w .range) (w .levels) h in
     λ i. record { refusal = z i; channels = q i }
   where
-    go : (k : ℕ) → k < 20 → getD r k none ≡ getD (channelsOf (watched fresh b w)) k none
+    go : (k : ℕ) → k < 20 → getD r k noChannel ≡ getD (channelsOf (watched fresh b w)) k noChannel
     go k l =
         let v = voltsOf (b .core .options .range) (getD (b .core .outputs .levels) k 0) in
         a .each k l
-        ∙ ap (λ (x : Extremes). entered fresh x v) (ap (λ (xs : List Extremes). getD xs k none) e ∙ channel-at w k none l)
+        ∙ ap (λ (x : Extremes). entered fresh x v) (ap (λ (xs : List Extremes). getD xs k noChannel) e ∙ channel-at w k noChannel l)
         ∙ one-more fresh b (w .range) (w .levels) k h
-        ∙ sym (channel-at (watched fresh b w) k none l)
+        ∙ sym (channel-at (watched fresh b w) k noChannel l)
 
 -- ---- Before the first accepted power-up
 
@@ -89,7 +89,7 @@ something-yet false (x ∷ xs) h f = refl
 
 -- ---- The end of the file
 
-as-they-are : (r : ℕ) (xs : List (List ℕ)) → channelsOf (cond (eqb (powerRefusal xs) 0) (what r xs) nothing) ≡ channelsOf (what r xs)
+as-they-are : (r : ℕ) (xs : List (List ℕ)) → channelsOf (cond (eqb (powerRefusal xs) 0) (what r xs) nothingCounted) ≡ channelsOf (what r xs)
 unfolding channelsFrom channel
 as-they-are r [] = refl
 as-they-are r (x ∷ xs) = refl
@@ -101,5 +101,5 @@ closed-told s m File h =
     (sym (file-ended s m h), sym (channels-by s m _ (file-ended s m h) ∙ as-they-are (w .range) (w .levels)))
 closed-told s m (Refused why p) h = (
   sym (file-refused s m why p h),
-  sym (channels-by s m _ (file-refused s m why p h) ∙ ap (λ (t : Bool). channelsOf (cond t (countedIn s m) nothing)) (fault-some why)),
+  sym (channels-by s m _ (file-refused s m why p h) ∙ ap (λ (t : Bool). channelsOf (cond t (countedIn s m) nothingCounted)) (fault-some why)),
 )

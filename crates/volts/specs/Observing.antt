@@ -8,7 +8,7 @@ use Rattle.rules.specs.declared.Board.{Board}
 use Rattle.rules.specs.Record.{stateOf}
 use Rattle.rules.specs.Step.{step}
 use Rattle.voltage.specs.declared.Table.{Table}
-use Rattle.voltage.specs.Counting.{Counted, startsAfresh, count}
+use Rattle.voltage.specs.Counting.{Counted, startsAfresh, countEvent}
 use Rattle.volts.specs.declared.Observed.{Observed}
 use Rattle.volts.specs.Watching.{tableOf, SameRange}
 
@@ -18,4 +18,4 @@ pub record Observes (t : Table) (b : Board) (m : List ℕ) (e : Event) (r : Obse
   -- whatever counted before, in the range that the record has
   pub table : (w : Counted) → t ≡ tableOf w
       → (startsAfresh e (step (stateOf b m) e) ≡ false → SameRange w ((step (stateOf b m) e) .state .board))
-      → r .table ≡ tableOf (count e (step (stateOf b m) e) w)
+      → r .table ≡ tableOf (countEvent e (step (stateOf b m) e) w)

@@ -16,13 +16,13 @@ use Rattle.files.specs.File.{faultNumber}
 use Rattle.voltage.specs.declared.Extremes.{Extremes}
 use Rattle.voltage.specs.declared.Table.{Table}
 use Rattle.voltage.specs.Volts.{voltsOf}
-use Rattle.voltage.specs.Counting.{Counted, nothing, freshly, also}
+use Rattle.voltage.specs.Counting.{Counted, nothingCounted, freshly, also}
 use Rattle.voltage.specs.Extremes.{lesser, greater}
 use Rattle.voltage.specs.Table.{channelsOf, powerRefusal}
 
 -- what the checker takes for an element past the end
-abbrev pub none : Extremes
-none = record { lowest = nan; highest = nan; last = nan }
+abbrev pub noChannel : Extremes
+noChannel = record { lowest = nan; highest = nan; last = nan }
 
 abbrev pub entered : Bool → Extremes → Float → Extremes
 entered fresh x v =
@@ -32,10 +32,10 @@ entered fresh x v =
 -- the twenty channels ts, when the record after an event has this range and these levels
 pub record AllEntered (fresh : Bool) (ts : List Extremes) (range : ℕ) (levels : List ℕ) (r : List Extremes) : Type 0 where
   pub twenty : length r ≡ 20
-  pub each : (k : ℕ) → k < 20 → getD r k none ≡ entered fresh (getD ts k none) (voltsOf range (getD levels k 0))
+  pub each : (k : ℕ) → k < 20 → getD r k noChannel ≡ entered fresh (getD ts k noChannel) (voltsOf range (getD levels k 0))
 
 abbrev pub refusedTable : ℕ → Table
-refusedTable n = record { refusal = n; channels = channelsOf nothing }
+refusedTable n = record { refusal = n; channels = channelsOf nothingCounted }
 
 abbrev pub tableOf : Counted → Table
 tableOf w = record { refusal = powerRefusal (w .levels); channels = channelsOf w }

@@ -14,9 +14,9 @@ use Rattle.files.specs.Pieces.{Piece}
 use Rattle.files.proofs.Joined.{then, renamed, piece-length}
 use Rattle.cuts.specs.Cut.{Cut, sample, chosen, groups, numbersFrom, numbers, events}
 use Rattle.cuts.proofs.Given.{GoodCut, session-told}
-use Rattle.cuts.proofs.Numbers.{numbers-told}
+use Rattle.cuts.proofs.ChosenNumbers.{numbers-told}
 use Rattle.writer.specs.Cutting.{valuesOf, groupAt, loadRecords}
-use Rattle.writer.proofs.Ends.{none-left}
+use Rattle.writer.proofs.NoBytes.{none-left}
 use Rattle.writer.proofs.Marks.{loads-long, loads-append, loads-over, loads-marked}
 
 -- ---- The numbers from a group on

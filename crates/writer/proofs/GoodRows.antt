@@ -37,8 +37,8 @@ kind-of-row (signal x) = refl
 row-told : (e : Event) → lengthOf (field (rowOf e) 0) ≡ length (kindOf e ∷ fieldsOf e)
 row-told e = ap lengthOf (kind-of-row e) ∙ known-length _ _ (known e)
 
-pub row-length : (r : List ℕ) → length r ≡ 6 → rowRefusal r ≡ 0 → length (bytesOf (eventOfRow r)) ≡ 2 + lengthOf (field r 0)
-row-length = of-event (λ r e. length (bytesOf e) ≡ 2 + lengthOf (field r 0)) (λ e h. omega (arith, row-told e))
+pub row-bytes-length : (r : List ℕ) → length r ≡ 6 → rowRefusal r ≡ 0 → length (bytesOf (eventOfRow r)) ≡ 2 + lengthOf (field r 0)
+row-bytes-length = of-event (λ r e. length (bytesOf e) ≡ 2 + lengthOf (field r 0)) (λ e h. omega (arith, row-told e))
 
 -- its length, its kind, its fields
 pub row-record : (r : List ℕ) → length r ≡ 6 → rowRefusal r ≡ 0

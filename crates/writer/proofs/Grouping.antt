@@ -13,7 +13,7 @@ use Rattle.laws.proofs.Search.{without-less, group-zeros, zeros-below}
 use Rattle.files.specs.Pieces.{Piece}
 use Rattle.files.proofs.Joined.{then, renamed, piece-length}
 use Rattle.writer.specs.Cutting.{groupAt, loadRecord, loadRecords}
-use Rattle.writer.proofs.Ends.{none-left}
+use Rattle.writer.proofs.NoBytes.{none-left}
 
 -- The channels that wait are those of `waiting`. With their loads, those of all are written from to₀ on.
 pub record Grouping (xs : List ℕ) (base mask end : ℕ) (out₀ : List ℕ) (to₀ : ℕ) (out : List ℕ) (at waiting : ℕ) : Type 0 where

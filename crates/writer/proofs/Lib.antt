@@ -2,7 +2,7 @@
 pub mod RowsOn
 pub mod GoodRows
 pub mod Widths
-pub mod Ends
+pub mod NoBytes
 pub mod Loops
 pub mod Refusing
 pub mod Orders

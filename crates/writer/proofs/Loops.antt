@@ -15,8 +15,8 @@ use Rattle.files.proofs.Lengths.{length-small}
 use Rattle.files.proofs.Joined.{then, renamed, piece-length}
 use Rattle.files.proofs.WritesGiven.{good-call}
 use Rattle.writer.specs.RowsFrom.{rowsFrom, rowAt, recordsFrom, JudgesRow, Judges}
-use Rattle.writer.proofs.Ends.{none-left}
-use Rattle.writer.proofs.GoodRows.{row-length}
+use Rattle.writer.proofs.NoBytes.{none-left}
+use Rattle.writer.proofs.GoodRows.{row-bytes-length}
 use Rattle.writer.proofs.RowsOn.{from-start, file-start, none-bad-over, records-over, records-next, passed-over, decides, none-bad-here}
 
 -- before the end of a slice of whole rows there is room for one
@@ -34,7 +34,7 @@ pub row-judged : (xs : List ℕ) (at : ℕ) → at + 6 ≤ length xs → (row : 
 row-judged xs at h row e z n q =
     let good : rowRefusal (rowAt xs at) ≡ 0 = sym (ap rowRefusal e) ∙ z in
     let l : n ≡ lengthOf (field (rowAt xs at) 0) = q ∙ ap (λ (r : List ℕ). lengthOf (field r 0)) e in
-    let long = row-length (rowAt xs at) (row-at-long xs at h) good in
+    let long = row-bytes-length (rowAt xs at) (row-at-long xs at h) good in
     let some : 1 ≤ n = omega (arith, l, long) in
     (some, record { refusal = sym good; small = omega (arith, l, length-small (field (rowAt xs at) 0)); long = λ _. omega (arith, l, long) })
 

@@ -3,7 +3,7 @@ ghost use Prim.Native.Nat.{_+_, _≤_};
 ghost use mathlib.Core.Path.{_≡_};
 ghost use mathlib.Core.List.{[], _∷_};
 ghost use lib.ListN.{length};
-ghost use Rattle.files.specs.Writing.{widths, fit, rowRefusal};
+ghost use Rattle.files.specs.Writing.{widths, fitWidths, rowRefusal};
 ghost use Rattle.writer.specs.RowsFrom.{rowAt};
 use kinds::length_of;
 
@@ -24,21 +24,21 @@ pub(crate) fn row_at(rows: &[u32], at: usize) -> [u32; 6]
 
 // Fields that the kind has not.
 fn are_none(c: u32, d: u32, e: u32) -> bool
-    ensures { λ r. ⌜ r ≡ fit (c ∷ d ∷ e ∷ []) (0 ∷ 0 ∷ 0 ∷ []) ⌝ }
+    ensures { λ r. ⌜ r ≡ fitWidths (c ∷ d ∷ e ∷ []) (0 ∷ 0 ∷ 0 ∷ []) ⌝ }
 {
     (c == 0) & ((d == 0) & (e == 0))
 }
 
 // 01: "power-up (d, range, filter, kit, firmware in two bytes)"
 fn are_settings(a: u32, b: u32, c: u32, d: u32, e: u32) -> bool
-    ensures { λ r. ⌜ r ≡ fit (a ∷ b ∷ c ∷ d ∷ e ∷ []) (1 ∷ 1 ∷ 1 ∷ 1 ∷ 2 ∷ []) ⌝ }
+    ensures { λ r. ⌜ r ≡ fitWidths (a ∷ b ∷ c ∷ d ∷ e ∷ []) (1 ∷ 1 ∷ 1 ∷ 1 ∷ 2 ∷ []) ⌝ }
 {
     (a < 256) & ((b < 256) & ((c < 256) & ((d < 256) & (e < 65536))))
 }
 
 // 02: "a field too large for its bytes or not 0 where the kind has none". The value of a write has four bytes, and takes every number.
-fn fits(kind: u32, a: u32, b: u32, c: u32, d: u32, e: u32) -> bool
-    ensures { λ r. ⌜ r ≡ fit (a ∷ b ∷ c ∷ d ∷ e ∷ []) (widths kind) ⌝ }
+fn fits_widths(kind: u32, a: u32, b: u32, c: u32, d: u32, e: u32) -> bool
+    ensures { λ r. ⌜ r ≡ fitWidths (a ∷ b ∷ c ∷ d ∷ e ∷ []) (widths kind) ⌝ }
 {
     match kind {
         1 => are_settings(a, b, c, d, e),
@@ -56,7 +56,7 @@ pub(crate) fn row_refusal(r: [u32; 6]) -> u32
     if length_of(kind) == 0 {
         return 13;
     }
-    if fits(kind, r[1], r[2], r[3], r[4], r[5]) {
+    if fits_widths(kind, r[1], r[2], r[3], r[4], r[5]) {
         return 0;
     }
     30

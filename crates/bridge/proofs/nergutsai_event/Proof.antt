@@ -14,8 +14,8 @@ returns c = not-understood _ _ _ _ _ (c .before .status-of .ensures .0) (c .if1 
 board-at-requires : tie.Need-board-at-requires
 board-at-requires c κs = search needs
 
-event-at-requires : tie.Need-event-at-requires
-event-at-requires c κs =
+row-event-requires : tie.Need-row-event-requires
+row-event-requires c κs =
     let test = c .before .before .before in
     (test .before .status-of .ensures .1 (test .if1 .left)) .event-long
 
@@ -47,7 +47,7 @@ returns-2 c =
     let fine = test .before in
     let z = test .if1 .left in
     understood _ _ _ _ _ _ _ _ _ _ (sym (fine .status-of .ensures .0) ∙ z) ((fine .status-of .ensures .1 z) .record-long)
-    (read .board-at .ensures) (stepped .before .event-at .ensures) (stepped .step .ensures)
+    (read .board-at .ensures) (stepped .before .row-event .ensures) (stepped .step .ensures)
     (put .put-reply .ensures .1) (put .put-reply .ensures .0)
 
 pub nergutsai-event-spec : {M : Type 1} → statement M
@@ -57,7 +57,7 @@ nergutsai-event-spec =
     status-of-requires
     returns
     board-at-requires
-    event-at-requires
+    row-event-requires
     step-requires
     put-reply-requires
     same-length

@@ -19,8 +19,8 @@ slice-write-answer-3 c = search needs
 slice-write-answer-4 : tie.Need-slice-write-answer-4
 slice-write-answer-4 c = search needs
 
-put-record-requires : tie.Need-put-record-requires
-put-record-requires c κs = c .before .before .before .before .pre .0
+give-back-requires : tie.Need-give-back-requires
+give-back-requires c κs = c .before .before .before .before .pre .0
 
 same-length : tie.Need-same-length
 same-length c = search needs
@@ -31,7 +31,7 @@ same-length-2 c = search needs
 returns : tie.Need-returns
 returns c =
     let z = c .before .before .before .before .before .before .before in
-    (c .before .before .put-record .ensures, sets-whole (now (z .args .answer)) (answerRow (z .args .reply .answer)) (sym (z .pre .1)))
+    (c .before .before .give-back .ensures, sets-whole (now (z .args .answer)) (answerRow (z .args .reply .answer)) (sym (z .pre .1)))
 
 pub put-reply-spec : {M : Type 1} → statement M
 put-reply-spec =
@@ -41,7 +41,7 @@ put-reply-spec =
     slice-write-answer-2
     slice-write-answer-3
     slice-write-answer-4
-    put-record-requires
+    give-back-requires
     same-length
     same-length-2
     returns)

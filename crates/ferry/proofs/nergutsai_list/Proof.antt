@@ -1,7 +1,7 @@
 -- How many bytes of text there are is what the listing told.
 use mathlib.Core.Path.{ap}
 use borrow.Author.Needs.{needs}
-use Rattle.ferry.proofs.Listings.{bytesOf, list-called}
+use Rattle.ferry.proofs.Listings.{bytesListed, list-called}
 use Rattle.ferry.proofs.nergutsai_list.Statement.{statement}
 use Rattle.ferry.proofs.nergutsai_list.Tie as tie
 
@@ -21,8 +21,8 @@ same-length-2 : tie.Need-same-length-2
 same-length-2 c = search needs
 
 returns : tie.Need-returns
-unfolding bytesOf
-returns c = list-called _ _ _ _ _ _ _ (c .before .before .before .before .before .before .before .list .ensures) (ap bytesOf (c .before .listed .given .1))
+unfolding bytesListed
+returns c = list-called _ _ _ _ _ _ _ (c .before .before .before .before .before .before .before .list .ensures) (ap bytesListed (c .before .listed .given .1))
 
 same-length-3 : tie.Need-same-length-3
 same-length-3 c = search needs
@@ -31,8 +31,8 @@ same-length-4 : tie.Need-same-length-4
 same-length-4 c = search needs
 
 returns-2 : tie.Need-returns-2
-unfolding bytesOf
-returns-2 c = list-called _ _ _ _ _ _ _ (c .before .before .before .before .before .before .list .ensures) (ap bytesOf (c .enum-told .given .1))
+unfolding bytesListed
+returns-2 c = list-called _ _ _ _ _ _ _ (c .before .before .before .before .before .before .list .ensures) (ap bytesListed (c .enum-told .given .1))
 
 pub nergutsai-list-spec : {M : Type 1} → statement M
 nergutsai-list-spec =

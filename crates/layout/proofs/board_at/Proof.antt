@@ -12,24 +12,24 @@ zeros-unpowered : boardAt (replicate 55 0) ≡ unpowered
 unfolding boardAt coreAt levelsAt unpowered
 zeros-unpowered = refl
 
-record-at-requires : tie.Need-record-at-requires
-record-at-requires c κs = search needs
+board-in-requires : tie.Need-board-in-requires
+board-in-requires c κs = search needs
 
 returns : tie.Need-returns
 unfolding toldOf
-returns c = record { told = rw (eq-eqb _ _ (c .before .if1 .taken)) (c .record-at .ensures) }
+returns c = record { told = rw (eq-eqb _ _ (c .before .if1 .taken)) (c .board-in .ensures) }
 
-slice-aggregate-record-at : tie.Need-slice-aggregate-record-at
-slice-aggregate-record-at c = search needs
+slice-aggregate-board-in : tie.Need-slice-aggregate-board-in
+slice-aggregate-board-in c = search needs
 
-record-at-requires-2 : tie.Need-record-at-requires-2
-record-at-requires-2 c κs = search needs
+board-in-requires-2 : tie.Need-board-in-requires-2
+board-in-requires-2 c κs = search needs
 
 returns-2 : tie.Need-returns-2
 unfolding toldOf
-returns-2 c = record { told = rw (ne-eqb _ _ (c .before .before .if1 .left)) (c .record-at2 .ensures ∙ zeros-unpowered) }
+returns-2 c = record { told = rw (ne-eqb _ _ (c .before .before .if1 .left)) (c .board-in2 .ensures ∙ zeros-unpowered) }
 
 pub board-at-spec : {M : Type 1} → statement M
 board-at-spec =
     tie.close
-    (tie.spec record-at-requires returns slice-aggregate-record-at record-at-requires-2 returns-2)
+    (tie.spec board-in-requires returns slice-aggregate-board-in board-in-requires-2 returns-2)

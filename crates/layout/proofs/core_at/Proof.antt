@@ -1,7 +1,7 @@
 -- The parts are what the parts' functions read.
 use native.Mathlib.Omega.{arith}
 use denote.Ref.{now}
-use Rattle.layout.specs.Layout.{at, on, coreAt}
+use Rattle.layout.specs.Layout.{at, isOn, coreAt}
 use Rattle.layout.proofs.core_at.Statement.{statement}
 use Rattle.layout.proofs.core_at.Tie as tie
 
@@ -54,7 +54,7 @@ returns c =
     let options = control .before in
     let row = now (options .before .before .before .args .row) in
     λ i. record {
-      powered = on row 0;
+      powered = isOn row 0;
       options = options .options-at .ensures i;
       control = control .control-at .ensures i;
       mode = mode .mode-at .ensures i;

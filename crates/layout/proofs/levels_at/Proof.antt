@@ -6,19 +6,19 @@ use native.Mathlib.Omega.{arith}
 use lib.ListN.{replicate}
 use denote.Ref.{now}
 use Rattle.layout.specs.Layout.{levelsAt}
-use Rattle.layout.proofs.Stores.{Stored, stored-none, stored-next, stored-all, sets-whole}
-use Rattle.layout.proofs.Levels.{levels-length, levels-each}
+use Rattle.layout.proofs.Stores.{Stores, stored-none, stored-next, stored-all, sets-whole}
+use Rattle.layout.proofs.RowLevels.{row-levels-length, levels-each}
 use Rattle.layout.proofs.levels_at.Statement.{statement}
 use Rattle.layout.proofs.levels_at.Tie as tie
 
 abbrev Inv-loop : tie.InvT-loop
-Inv-loop row levels₀ i₀ levels i = Stored (replicate 20 0) 0 (levelsAt row) i levels
+Inv-loop row levels₀ i₀ levels i = Stores (replicate 20 0) 0 (levelsAt row) i levels
 
 abbrev μ-loop : tie.MeasureT-loop
 μ-loop row levels₀ i₀ levels i = 20 - i
 
 loop-holds : tie.Need-loop-holds Inv-loop μ-loop
-loop-holds c = stored-none _ _ _ (omega (arith, levels-length (now (c .args .row)) (c .pre)))
+loop-holds c = stored-none _ _ _ (omega (arith, row-levels-length (now (c .args .row)) (c .pre)))
 
 add-levels : tie.Need-add-levels Inv-loop μ-loop
 add-levels c = omega arith
@@ -48,14 +48,14 @@ loop-again : tie.Need-loop-again Inv-loop μ-loop
 loop-again c =
     let at-loop = c .before .before in
     let row = now (at-loop .before .args .row) in
-    let twenty = levels-length row (at-loop .before .pre) in
+    let twenty = row-levels-length row (at-loop .before .pre) in
     let read = sym (levels-each row (at-loop .loop .i) (c .before .loop-test .taken)) in
     let next = stored-next (at-loop .loop .inv) (omega arith) _ read in
     rw (zero-add (at-loop .loop .i)) at next
 
 returns : tie.Need-returns Inv-loop μ-loop
 returns c =
-    let twenty = levels-length (now (c .before .before .args .row)) (c .before .before .pre) in
+    let twenty = row-levels-length (now (c .before .before .args .row)) (c .before .before .pre) in
     stored-all (c .before .loop .inv) (omega arith) ∙ sets-whole _ _ twenty
 
 pub levels-at-spec : {M : Type 1} → statement M

@@ -5,14 +5,14 @@ use Rattle.lines.proofs.Printing.{has-room, printed, unprinted}
 use Rattle.lines.proofs.put_text.Statement.{statement}
 use Rattle.lines.proofs.put_text.Tie as tie
 
-fits-requires : tie.Need-fits-requires
-fits-requires c κs = search needs
+has-room-requires : tie.Need-has-room-requires
+has-room-requires c κs = search needs
 
 returns : tie.Need-returns
-returns c = unprinted _ _ _ (c .before .fits2 .ensures) (c .if1 .taken)
+returns c = unprinted _ _ _ (c .before .has-room .ensures) (c .if1 .taken)
 
 put-bytes-requires : tie.Need-put-bytes-requires
-put-bytes-requires c κs = has-room _ _ _ (c .before .before .fits2 .ensures) (c .before .if1 .left)
+put-bytes-requires c κs = has-room _ _ _ (c .before .before .has-room .ensures) (c .before .if1 .left)
 
 same-length : tie.Need-same-length
 same-length c = piece-length (c .before .before .put-bytes .ensures)
@@ -20,7 +20,7 @@ same-length c = piece-length (c .before .before .put-bytes .ensures)
 returns-2 : tie.Need-returns-2
 returns-2 c =
     let test = c .before .before .before .before in
-    printed _ _ _ (test .before .fits2 .ensures) (test .if1 .left) (c .before .before .put-bytes .ensures)
+    printed _ _ _ (test .before .has-room .ensures) (test .if1 .left) (c .before .before .put-bytes .ensures)
 
 pub put-text-spec : {M : Type 1} → statement M
-put-text-spec = tie.close (tie.spec fits-requires returns put-bytes-requires same-length returns-2)
+put-text-spec = tie.close (tie.spec has-room-requires returns put-bytes-requires same-length returns-2)

@@ -10,7 +10,7 @@ use Rattle.rules.specs.Bits.{bit, activeFrom}
 use Rattle.rules.proofs.Choice.{and-both}
 use Rattle.laws.proofs.Search.{without-less}
 use Rattle.moves.specs.Deal.{dealing, dealAll}
-use Rattle.moves.proofs.Entries.{mask-ready}
+use Rattle.moves.proofs.Tested.{mask-ready}
 use Rattle.moves.proofs.Loop.{one-dealt, Inv, inv-start, inv-some, inv-turn, inv-end}
 use Rattle.moves.proofs.deal.Statement.{statement}
 use Rattle.moves.proofs.deal.Tie as tie

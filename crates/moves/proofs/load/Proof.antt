@@ -4,7 +4,7 @@ use mathlib.Core.Path.{refl, sym, ap, _∙_}
 use native.Mathlib.Omega.{arith}
 use borrow.Author.Needs.{needs}
 use lib.ListN.{set}
-use Rattle.moves.proofs.Entries.{fate-says}
+use Rattle.moves.proofs.Tested.{fate-says}
 use Rattle.moves.proofs.Storing.{stored-loaded, lost-loaded}
 use Rattle.moves.proofs.load.Statement.{statement}
 use Rattle.moves.proofs.load.Tie as tie

@@ -1,5 +1,5 @@
 use borrow.Author.Needs.{needs}
-use Rattle.rates.proofs.Table.{references, reference-at}
+use Rattle.rates.proofs.References.{references, reference-at}
 use Rattle.rates.proofs.reference.Statement.{statement}
 use Rattle.rates.proofs.reference.Tie as tie
 

@@ -1,12 +1,12 @@
 use mathlib.Core.Path.{sym}
 use borrow.Author.Tests.{eq-eqb, ne-eqb}
-use Rattle.rows.specs.Promises.{written}
+use Rattle.rows.specs.Promises.{rowWritten}
 use borrow.Author.Needs.{needs}
 use Rattle.rows.proofs.put_board.Statement.{statement}
 use Rattle.rows.proofs.put_board.Tie as tie
 
 returns : tie.Need-returns
-unfolding written
+unfolding rowWritten
 returns c = let e = ne-eqb _ _ (c .if1 .taken) in record { understood = sym e; left = rw e }
 
 put-whole-requires : tie.Need-put-whole-requires
@@ -16,7 +16,7 @@ same-length : tie.Need-same-length
 same-length c = search needs
 
 returns-2 : tie.Need-returns-2
-unfolding written
+unfolding rowWritten
 returns-2 c =
     let put = c .before .before in
     let e = eq-eqb _ _ (put .before .before .if1 .left) in

@@ -1,7 +1,7 @@
 -- The entries one after another, each bool as its flag.
 use native.Mathlib.Omega.{arith}
 use lib.ListN.{length-set}
-use Rattle.rows.proofs.Flags.{flag-cast}
+use Rattle.rows.proofs.Casts.{flag-cast}
 use borrow.Author.Needs.{needs}
 use Rattle.rows.proofs.put_head.Statement.{statement}
 use Rattle.rows.proofs.put_head.Tie as tie

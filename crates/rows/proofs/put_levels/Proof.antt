@@ -4,12 +4,12 @@ use mathlib.Core.Path.{_≡_}
 use native.Mathlib.Omega.{arith}
 use borrow.Author.Needs.{needs}
 use lib.ListN.{length}
-use Rattle.layout.proofs.Stores.{Stored, stored-none, stored-length, stored-next, stored-all}
+use Rattle.layout.proofs.Stores.{Stores, stored-none, stored-length, stored-next, stored-all}
 use Rattle.rows.proofs.put_levels.Statement.{statement}
 use Rattle.rows.proofs.put_levels.Tie as tie
 
 abbrev Inv-loop : tie.InvT-loop
-Inv-loop row₀ levels i₀ row i = Stored row₀ 35 levels i row
+Inv-loop row₀ levels i₀ row i = Stores row₀ 35 levels i row
 
 abbrev μ-loop : tie.MeasureT-loop
 μ-loop row₀ levels i₀ row i = 20 - i

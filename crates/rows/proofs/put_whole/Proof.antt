@@ -1,7 +1,7 @@
--- The parts' stores in order are the stores of `rowOf b` from the first entry on: over 55 entries they leave nothing else.
+-- The parts' stores in order are the stores of `boardRow b` from the first entry on: over 55 entries they leave nothing else.
 use mathlib.Core.Path.{sym, _∙_}
 use denote.Ref.{now}
-use Rattle.layout.specs.Layout.{rowOf}
+use Rattle.layout.specs.Layout.{boardRow}
 use Rattle.layout.proofs.Stores.{sets-whole}
 use Rattle.layout.proofs.Rows.{row-length}
 use borrow.Author.Needs.{needs}
@@ -30,7 +30,7 @@ same-length : tie.Need-same-length
 same-length c = search needs
 
 returns : tie.Need-returns
-unfolding rowOf
+unfolding boardRow
 returns c =
     let levels = c .before .before in
     let places = levels .before .before .before .before in
@@ -47,7 +47,7 @@ returns c =
       control .put-control .ensures,
       head .put-head .ensures,
     )
-    (sets-whole (now (z .args .row)) (rowOf (z .args .b)) (row-length (z .args .b) (levels .put-levels .ensures .0) ∙ sym (z .pre)))
+    (sets-whole (now (z .args .row)) (boardRow (z .args .b)) (row-length (z .args .b) (levels .put-levels .ensures .0) ∙ sym (z .pre)))
 
 pub put-whole-spec : {M : Type 1} → statement M
 put-whole-spec =

@@ -7,8 +7,8 @@ use Rattle.rules.specs.declared.Board.{Board}
 use Rattle.rules.specs.Record.{State, stateOf, start}
 use Rattle.run.specs.Way.{Way}
 use Rattle.run.proofs.Ways.{way-start, way-on, way-over, way-ends}
-use Rattle.run.proofs.Played.{was-played, was-ended}
-use Rattle.run.proofs.Left.{Finish, Leaves, played, ended}
+use Rattle.run.proofs.Advancing.{was-played, was-ended}
+use Rattle.run.proofs.Leaves.{Finish, Leaves, leaves-played, leaves-ended}
 use Rattle.run.proofs.run.Statement.{statement}
 use Rattle.run.proofs.run.Tie as tie
 
@@ -51,7 +51,7 @@ loop-again c =
     let r = z .advance .ensures in
     let w = was-played (a .s .now) (l .c) st _ _ (sym (r .progress) ∙ c .before .p .given .1) in
     let after = c .before .p .given .0 .1 .0 in
-    let on = way-on Finish State Leaves (a .s .now) (start (a .memory .now)) st _ (l .c) after (w .0) (l .inv .1) (w .1) (played st (w .0)) in
+    let on = way-on Finish State Leaves (a .s .now) (start (a .memory .now)) st _ (l .c) after (w .0) (l .inv .1) (w .1) (leaves-played st (w .0)) in
     let q = (λ i. stateOf (r .board i) (r .memory i)) ∙ w .2 in
     (z .advance .kept .1 .1 .1 .0 ∙ l .inv .0, subst (λ (x : State). Way Leaves (a .s .now) (start (a .memory .now)) x after) (sym q) on)
 
@@ -72,7 +72,7 @@ returns c =
     let r = z .advance .ensures in
     let w = was-ended (a .s .now) (l .c) st _ (sym (r .progress) ∙ c .before .p2 .given .1) in
     let end = c .before .p2 .given .0 .0 in
-    let o = way-over Finish State Leaves (a .s .now) (start (a .memory .now)) st (l .c) end (record { state = st; end = end }) (l .inv .1) (w .0) (ended st end) in
+    let o = way-over Finish State Leaves (a .s .now) (start (a .memory .now)) st (l .c) end (record { state = st; end = end }) (l .inv .1) (w .0) (leaves-ended st end) in
     let q = w .1 ∙ o .state in
     record {
       end = o .end;

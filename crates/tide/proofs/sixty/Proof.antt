@@ -3,7 +3,7 @@ use Prim.Native.Nat.{_-_}
 use mathlib.Core.Path.{refl}
 use native.Mathlib.Omega.{arith}
 use borrow.Author.Needs.{needs}
-use Rattle.tide.proofs.Numbers.{Filled, filled-none, filled-next, filled-all}
+use Rattle.tide.proofs.Threes.{Filled, filled-none, filled-next, filled-all}
 use Rattle.tide.proofs.sixty.Statement.{statement}
 use Rattle.tide.proofs.sixty.Tie as tie
 

@@ -3,7 +3,7 @@ use mathlib.Core.Bool.{_&&_}
 use borrow.Author.Needs.{needs}
 use lib.Dec.{eqb}
 use Rattle.rules.specs.declared.Answer.{Answer}
-use Rattle.voltage.specs.Counting.{isPowerUp, count}
+use Rattle.voltage.specs.Counting.{isPowerUp, countEvent}
 use Rattle.volts.specs.Watching.{tableOf, watched, SameRange}
 use Rattle.volts.proofs.observe.Statement.{statement}
 use Rattle.volts.proofs.observe.Tie as tie
@@ -21,7 +21,7 @@ same-length : tie.Need-same-length
 same-length c = search needs
 
 returns : tie.Need-returns
-unfolding count
+unfolding countEvent
 returns c =
     let s = c .before .before .before .before .before .before .step .ensures in
     let e = c .before .before .before .before .before .before .before .before .before .args .e in

@@ -4,9 +4,9 @@ use borrow.Author.Needs.{needs}
 use Rattle.rules.specs.Record.{activeSize}
 use Rattle.rules.specs.Place.{place}
 use Rattle.record.proofs.Depths.{capped-same}
-use Rattle.moves.proofs.Standing.{only-does}
+use Rattle.moves.proofs.Still.{only-does}
 use Rattle.moves.proofs.Clocking.{clocked-does}
-use Rattle.plans.specs.Parts.{carried, Moves}
+use Rattle.plans.specs.Parts.{carried, MovesOrStores}
 use Rattle.board.proofs.Losing.{load-does}
 use Rattle.board.proofs.carry.carry.Statement.{statement}
 use Rattle.board.proofs.carry.carry.Tie as tie
@@ -53,7 +53,7 @@ same-length : tie.Need-same-length
 same-length c = search needs
 
 returns-3 : tie.Need-returns-3
-unfolding carried Moves
+unfolding carried MovesOrStores
 returns-3 c =
     let a = c .before .before .before .before .before .before .before .before .before .before .before .before .before .before .before .args in
     let q = c .before .before .before .before .before .before .before .before .before .before .before .before .before .before .before .pre (rw (c .before .before .before .before .before .before .before .before .before .before .before .enum-told3 .given .1) tt) in
@@ -64,7 +64,7 @@ same-length-2 : tie.Need-same-length-2
 same-length-2 c = search needs
 
 returns-4 : tie.Need-returns-4
-unfolding carried Moves
+unfolding carried MovesOrStores
 returns-4 c =
     let a = c .before .before .before .before .before .before .before .before .before .before .before .before .args in
     let q = c .before .before .before .before .before .before .before .before .before .before .before .before .pre (rw (c .before .before .before .before .before .before .before .before .act .given .1) tt) in

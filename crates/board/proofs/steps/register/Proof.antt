@@ -15,8 +15,8 @@ enum-told-2 c = search needs
 enum-known-e : tie.Need-enum-known-e
 enum-known-e c = search needs
 
-read-at-requires : tie.Need-read-at-requires
-read-at-requires c κs = search needs
+register-at-requires : tie.Need-register-at-requires
+register-at-requires c κs = search needs
 
 enum-told-3 : tie.Need-enum-told-3
 enum-told-3 c = search needs
@@ -33,7 +33,7 @@ returns-3 : tie.Need-returns-3
 unfolding reading
 returns-3 c =
     let h = c .before .before .before .before .pre (rw (c .before .before .e .given .1) tt) in
-    rw (c .before .before .e .given .1) (c .read-at .ensures .told ∙ rw (board-same (c .before .before .before .before .args .b) h))
+    rw (c .before .before .e .given .1) (c .register-at .ensures .told ∙ rw (board-same (c .before .before .before .before .args .b) h))
 
 returns-4 : tie.Need-returns-4
 unfolding reading
@@ -46,7 +46,7 @@ register-spec =
     enum-told
     enum-told-2
     enum-known-e
-    read-at-requires
+    register-at-requires
     enum-told-3
     returns
     returns-2

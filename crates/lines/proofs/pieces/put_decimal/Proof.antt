@@ -5,11 +5,11 @@ use Rattle.text.proofs.Numbers.{decimal-one}
 use Rattle.lines.proofs.pieces.put_decimal.Statement.{statement}
 use Rattle.lines.proofs.pieces.put_decimal.Tie as tie
 
-put-one-requires : tie.Need-put-one-requires
-put-one-requires c κs = search needs
+put-digit-requires : tie.Need-put-digit-requires
+put-digit-requires c κs = search needs
 
 returns : tie.Need-returns
-returns c = rw (decimal-one 9 _ (c .before .before .before .before .if1 .taken)) (c .before .before .put-one .ensures)
+returns c = rw (decimal-one 9 _ (c .before .before .before .before .if1 .taken)) (c .before .before .put-digit .ensures)
 
 same-length : tie.Need-same-length
 same-length c = piece-length (returns c)
@@ -27,7 +27,7 @@ pub put-decimal-spec : {M : Type 1} → statement M
 put-decimal-spec =
     tie.close
     (tie.spec
-    put-one-requires
+    put-digit-requires
     same-length
     returns
     put-long-requires

@@ -1,7 +1,7 @@
 -- `put_long` meets its contract: the digits before the last four, and these.
 use borrow.Author.Needs.{needs}
 use Rattle.text.proofs.Numbers.{decimal-four, decimal-long, decimal-room}
-use Rattle.files.proofs.Joined.{then, piece-length, room}
+use Rattle.files.proofs.Joined.{then, piece-length, room-after}
 use Rattle.lines.proofs.pieces.put_long.Statement.{statement}
 use Rattle.lines.proofs.pieces.put_long.Tie as tie
 
@@ -17,16 +17,16 @@ same-length c = piece-length (returns c)
 put-middle-requires : tie.Need-put-middle-requires
 put-middle-requires c κs = search needs
 
-put-four-requires : tie.Need-put-four-requires
-put-four-requires c κs =
+put-four-digits-requires : tie.Need-put-four-digits-requires
+put-four-digits-requires c κs =
     let high = c .before .before .before in
-    room 6 4 (high .before .before .before .before .pre) (high .put-middle .ensures) (decimal-long 5 _)
+    room-after 6 4 (high .before .before .before .before .pre) (high .put-middle .ensures) (decimal-long 5 _)
 
 returns-2 : tie.Need-returns-2
 returns-2 c =
     let low = c .before .before in
     let high = low .before .before .before .before in
-    rw (decimal-four 5 _ (high .before .before .if1 .left)) (then (high .put-middle .ensures) (low .put-four .ensures))
+    rw (decimal-four 5 _ (high .before .before .if1 .left)) (then (high .put-middle .ensures) (low .put-four-digits .ensures))
 
 same-length-2 : tie.Need-same-length-2
 same-length-2 c = piece-length (returns-2 c)
@@ -39,6 +39,6 @@ put-long-spec =
     same-length
     returns
     put-middle-requires
-    put-four-requires
+    put-four-digits-requires
     same-length-2
     returns-2)

@@ -1,7 +1,7 @@
 -- `put_middle` meets its contract: the digits before the last four, and these.
 use borrow.Author.Needs.{needs}
 use Rattle.text.proofs.Numbers.{decimal-four, decimal-long, decimal-room}
-use Rattle.files.proofs.Joined.{then, piece-length, room}
+use Rattle.files.proofs.Joined.{then, piece-length, room-after}
 use Rattle.lines.proofs.pieces.put_middle.Statement.{statement}
 use Rattle.lines.proofs.pieces.put_middle.Tie as tie
 
@@ -17,16 +17,16 @@ same-length c = piece-length (returns c)
 put-tens-requires : tie.Need-put-tens-requires
 put-tens-requires c κs = search needs
 
-put-four-requires : tie.Need-put-four-requires
-put-four-requires c κs =
+put-four-digits-requires : tie.Need-put-four-digits-requires
+put-four-digits-requires c κs =
     let high = c .before .before .before in
-    room 2 4 (high .before .before .before .before .pre .0) (high .put-tens .ensures) (decimal-long 1 _)
+    room-after 2 4 (high .before .before .before .before .pre .0) (high .put-tens .ensures) (decimal-long 1 _)
 
 returns-2 : tie.Need-returns-2
 returns-2 c =
     let low = c .before .before in
     let high = low .before .before .before .before in
-    rw (decimal-four 1 _ (high .before .before .if1 .left)) (then (high .put-tens .ensures) (low .put-four .ensures))
+    rw (decimal-four 1 _ (high .before .before .if1 .left)) (then (high .put-tens .ensures) (low .put-four-digits .ensures))
 
 same-length-2 : tie.Need-same-length-2
 same-length-2 c = piece-length (returns-2 c)
@@ -39,6 +39,6 @@ put-middle-spec =
     same-length
     returns
     put-tens-requires
-    put-four-requires
+    put-four-digits-requires
     same-length-2
     returns-2)

@@ -2,7 +2,7 @@
 use native.Mathlib.Omega.{arith}
 use borrow.Author.Needs.{needs}
 use Rattle.text.specs.Text.{hex}
-use Rattle.files.proofs.Joined.{then, piece-length, room}
+use Rattle.files.proofs.Joined.{then, piece-length, room-after}
 use Rattle.text.proofs.Numbers.{hex-long, hex-four}
 use Rattle.lines.proofs.pieces.put_register.Statement.{statement}
 use Rattle.lines.proofs.pieces.put_register.Tie as tie
@@ -26,7 +26,7 @@ put-hex-requires c κs = search needs
 put-hex-requires-2 : tie.Need-put-hex-requires-2
 put-hex-requires-2 c κs =
     let high = c .before .before .before in
-    room 4 4 (high .before .before .before .before .pre) (high .put-hex .ensures) (rw hex-long (omega arith))
+    room-after 4 4 (high .before .before .before .before .pre) (high .put-hex .ensures) (rw hex-long (omega arith))
 
 returns-2 : tie.Need-returns-2
 returns-2 c =

@@ -6,22 +6,22 @@ use Rattle.files.proofs.Joined.{piece-length}
 use Rattle.lines.proofs.pieces.put_tens.Statement.{statement}
 use Rattle.lines.proofs.pieces.put_tens.Tie as tie
 
-put-one-requires : tie.Need-put-one-requires
-put-one-requires c κs = search needs
+put-digit-requires : tie.Need-put-digit-requires
+put-digit-requires c κs = search needs
 
 returns : tie.Need-returns
-returns c = rw (decimal-one 1 _ (c .before .before .before .before .if1 .taken)) (c .before .before .put-one .ensures)
+returns c = rw (decimal-one 1 _ (c .before .before .before .before .if1 .taken)) (c .before .before .put-digit .ensures)
 
 same-length : tie.Need-same-length
 same-length c = piece-length (returns c)
 
-put-two-requires : tie.Need-put-two-requires
-put-two-requires c κs = search needs
+put-two-digits-requires : tie.Need-put-two-digits-requires
+put-two-digits-requires c κs = search needs
 
 returns-2 : tie.Need-returns-2
 returns-2 c =
     let test = c .before .before .before .before in
-    rw (decimal-pair 0 _ (test .if1 .left) (test .before .before .pre .1)) (c .before .before .put-two .ensures)
+    rw (decimal-pair 0 _ (test .if1 .left) (test .before .before .pre .1)) (c .before .before .put-two-digits .ensures)
 
 same-length-2 : tie.Need-same-length-2
 same-length-2 c = piece-length (returns-2 c)
@@ -29,4 +29,4 @@ same-length-2 c = piece-length (returns-2 c)
 pub put-tens-spec : {M : Type 1} → statement M
 put-tens-spec =
     tie.close
-    (tie.spec put-one-requires same-length returns put-two-requires same-length-2 returns-2)
+    (tie.spec put-digit-requires same-length returns put-two-digits-requires same-length-2 returns-2)

@@ -3,19 +3,19 @@ use Prim.Native.Nat.{_+_, _≤_}
 use native.Mathlib.Omega.{arith}
 use lib.ListN.{length}
 use borrow.Author.Needs.{needs}
-use Rattle.files.proofs.Joined.{then, piece-length, room}
+use Rattle.files.proofs.Joined.{then, piece-length, room-after}
 use Rattle.text.proofs.Numbers.{field-long}
 use Rattle.lines.proofs.whole.put_rest.Statement.{statement}
 use Rattle.lines.proofs.whole.put_rest.Tie as tie
 
 after-moved : (c : tie.After-put-field) → c .put-field .result + 23 ≤ length (c .put-field .last .0)
-after-moved c = room 11 23 (c .before .before .before .pre) (c .put-field .ensures) (field-long _)
+after-moved c = room-after 11 23 (c .before .before .before .pre) (c .put-field .ensures) (field-long _)
 
 after-fate : (c : tie.After-put-field2) → c .put-field2 .result + 12 ≤ length (c .put-field2 .last .0)
-after-fate c = room 11 12 (after-moved (c .before .before .before .before)) (c .put-field2 .ensures) (field-long _)
+after-fate c = room-after 11 12 (after-moved (c .before .before .before .before)) (c .put-field2 .ensures) (field-long _)
 
 after-count : (c : tie.After-put-field3) → c .put-field3 .result + 1 ≤ length (c .put-field3 .last .0)
-after-count c = room 11 1 (after-fate (c .before .before .before .before)) (c .put-field3 .ensures) (field-long _)
+after-count c = room-after 11 1 (after-fate (c .before .before .before .before)) (c .put-field3 .ensures) (field-long _)
 
 put-field-requires : tie.Need-put-field-requires
 put-field-requires c κs = search needs

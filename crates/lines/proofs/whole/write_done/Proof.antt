@@ -3,14 +3,14 @@ use Prim.Native.Nat.{_+_, _≤_}
 use native.Mathlib.Omega.{arith}
 use lib.ListN.{length}
 use borrow.Author.Needs.{needs}
-use Rattle.files.proofs.Joined.{piece-length, room}
+use Rattle.files.proofs.Joined.{piece-length, room-after}
 use Rattle.text.proofs.Numbers.{decimal-long}
 use Rattle.lines.proofs.LineParts.{done-joined}
 use Rattle.lines.proofs.whole.write_done.Statement.{statement}
 use Rattle.lines.proofs.whole.write_done.Tie as tie
 
 after-number : (c : tie.After-put-long) → c .put-long .result + 54 ≤ length (c .put-long .last .0)
-after-number c = room 10 54 (c .before .before .before .pre) (c .put-long .ensures) (decimal-long 9 _)
+after-number c = room-after 10 54 (c .before .before .before .pre) (c .put-long .ensures) (decimal-long 9 _)
 
 put-long-requires : tie.Need-put-long-requires
 put-long-requires c κs = search needs
@@ -24,7 +24,7 @@ put-bytes-requires c κs = omega (arith, after-number (c .before .before .before
 put-rest-requires : tie.Need-put-rest-requires
 put-rest-requires c κs =
     let t = c .before .before .before in
-    omega (arith, room 11 43 (after-number (t .before .before .before .before .before)) (t .put-bytes .ensures) (omega arith))
+    omega (arith, room-after 11 43 (after-number (t .before .before .before .before .before)) (t .put-bytes .ensures) (omega arith))
 
 returns : tie.Need-returns
 returns c =

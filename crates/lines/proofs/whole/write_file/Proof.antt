@@ -4,19 +4,19 @@ use native.Mathlib.Omega.{arith}
 use lib.ListN.{length}
 use borrow.Author.Needs.{needs}
 use Rattle.text.specs.Text.{fileLine}
-use Rattle.files.proofs.Joined.{then, piece-length, room}
+use Rattle.files.proofs.Joined.{then, piece-length, room-after}
 use Rattle.text.proofs.Numbers.{decimal-long, field-long}
 use Rattle.lines.proofs.whole.write_file.Statement.{statement}
 use Rattle.lines.proofs.whole.write_file.Tie as tie
 
 after-text : (c : tie.After-put-bytes) → c .put-bytes .result + 22 ≤ length (c .put-bytes .last .0)
-after-text c = room 5 22 (c .before .before .before .before .pre) (c .put-bytes .ensures) (omega arith)
+after-text c = room-after 5 22 (c .before .before .before .before .pre) (c .put-bytes .ensures) (omega arith)
 
 after-decimal : (c : tie.After-put-decimal) → c .put-decimal .result + 12 ≤ length (c .put-decimal .last .0)
-after-decimal c = room 10 12 (after-text (c .before .before .before .before)) (c .put-decimal .ensures) (decimal-long 9 _)
+after-decimal c = room-after 10 12 (after-text (c .before .before .before .before)) (c .put-decimal .ensures) (decimal-long 9 _)
 
 after-field : (c : tie.After-put-field) → c .put-field .result + 1 ≤ length (c .put-field .last .0)
-after-field c = room 11 1 (after-decimal (c .before .before .before .before)) (c .put-field .ensures) (field-long _)
+after-field c = room-after 11 1 (after-decimal (c .before .before .before .before)) (c .put-field .ensures) (field-long _)
 
 slice-aggregate-put-bytes : tie.Need-slice-aggregate-put-bytes
 slice-aggregate-put-bytes c = search needs

@@ -11,7 +11,7 @@ use borrow.Kind.Array.{eInt, good-length}
 use borrow.Author.Needs.{needs}
 use Rattle.text.specs.Text.{levelsIn, levelsLine}
 use Rattle.files.specs.Pieces.{Piece}
-use Rattle.files.proofs.Joined.{then, piece-length, room}
+use Rattle.files.proofs.Joined.{then, piece-length, room-after}
 use Rattle.text.proofs.Numbers.{hex-long}
 use Rattle.lines.proofs.whole.write_levels.Statement.{statement}
 use Rattle.lines.proofs.whole.write_levels.Tie as tie
@@ -37,7 +37,7 @@ put-bytes-requires c κs = search needs
 loop-holds : tie.Need-loop-holds Inv-loop μ-loop
 loop-holds c =
     let start = c .before .before .before .before .before .before in
-    (omega arith, room 6 101 (start .pre) (c .before .before .put-bytes .ensures) (omega arith), λ o q h. h)
+    (omega arith, room-after 6 101 (start .pre) (c .before .before .put-bytes .ensures) (omega arith), λ o q h. h)
 
 mul-level : tie.Need-mul-level Inv-loop μ-loop
 mul-level c = search needs

@@ -3,23 +3,23 @@ use Prim.Native.Nat.{_+_, _≤_}
 use native.Mathlib.Omega.{arith}
 use lib.ListN.{length}
 use borrow.Author.Needs.{needs}
-use Rattle.files.proofs.Joined.{piece-length, room}
+use Rattle.files.proofs.Joined.{piece-length, room-after}
 use Rattle.text.proofs.Numbers.{decimal-long, field-long, hex-long}
 use Rattle.lines.proofs.LineParts.{line-joined}
 use Rattle.lines.proofs.whole.write_line.Statement.{statement}
 use Rattle.lines.proofs.whole.write_line.Tie as tie
 
 after-number : (c : tie.After-put-long) → c .put-long .result + 54 ≤ length (c .put-long .last .0)
-after-number c = room 10 54 (c .before .before .before .pre) (c .put-long .ensures) (decimal-long 9 _)
+after-number c = room-after 10 54 (c .before .before .before .pre) (c .put-long .ensures) (decimal-long 9 _)
 
 after-refusal : (c : tie.After-put-field) → c .put-field .result + 43 ≤ length (c .put-field .last .0)
-after-refusal c = room 11 43 (after-number (c .before .before .before .before)) (c .put-field .ensures) (field-long _)
+after-refusal c = room-after 11 43 (after-number (c .before .before .before .before)) (c .put-field .ensures) (field-long _)
 
 after-space : (c : tie.After-put-byte) → c .put-byte .result + 42 ≤ length (c .put-byte .last .0)
-after-space c = room 1 42 (after-refusal (c .before .before .before .before)) (c .put-byte .ensures) (omega arith)
+after-space c = room-after 1 42 (after-refusal (c .before .before .before .before)) (c .put-byte .ensures) (omega arith)
 
 after-register : (c : tie.After-put-register) → c .put-register .result + 34 ≤ length (c .put-register .last .0)
-after-register c = room 8 34 (after-space (c .before .before .before .before)) (c .put-register .ensures) (rw hex-long (omega arith))
+after-register c = room-after 8 34 (after-space (c .before .before .before .before)) (c .put-register .ensures) (rw hex-long (omega arith))
 
 put-long-requires : tie.Need-put-long-requires
 put-long-requires c κs = search needs

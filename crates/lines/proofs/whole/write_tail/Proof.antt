@@ -1,7 +1,7 @@
 -- `write_tail` meets its contract: its test is that of `tail`, and after the longest line of a refusal there is room for the levels.
 use borrow.Author.Needs.{needs}
 use Rattle.text.proofs.Lengths.{file-line-length}
-use Rattle.files.proofs.Joined.{then, renamed, piece-length, room}
+use Rattle.files.proofs.Joined.{then, renamed, piece-length, room-after}
 use Rattle.lines.proofs.LineParts.{tail-plain, tail-refused}
 use Rattle.lines.proofs.whole.write_tail.Statement.{statement}
 use Rattle.lines.proofs.whole.write_tail.Tie as tie
@@ -21,7 +21,7 @@ write-file-requires c κs = search needs
 write-levels-requires-2 : tie.Need-write-levels-requires-2
 write-levels-requires-2 c κs =
     let file = c .before .before .before in
-    room 27 107 (file .before .before .before .before .pre) (file .write-file .ensures) (file-line-length _ _)
+    room-after 27 107 (file .before .before .before .before .pre) (file .write-file .ensures) (file-line-length _ _)
 
 returns-2 : tie.Need-returns-2
 returns-2 c =

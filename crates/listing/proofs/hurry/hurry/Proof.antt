@@ -1,4 +1,4 @@
--- At each turn the events from the start of the loop on are passed (specs/Desk.antt).
+-- At each turn the events from the start of the loop on are passed (specs/Draft.antt).
 use Prim.Native.Nat.{_-_}
 use mathlib.Core.Path.{_≡_, refl, sym, subst, _∙_}
 use native.Mathlib.Omega.{arith}
@@ -6,7 +6,7 @@ use borrow.Author.Tests.{not-false}
 use lib.ListN.{length}
 use Rattle.run.proofs.Ways.{way-ends}
 use Rattle.listing.specs.declared.hurry.Hurried.{Hurried}
-use Rattle.listing.specs.Desk.{boardNow, desk, Walked, Hurries}
+use Rattle.listing.specs.Draft.{boardNow, draft, Walked, Hurries}
 use Rattle.listing.proofs.Walking.{walked-start, walked-then, walked-on, line-room, number-small}
 use Rattle.listing.proofs.hurry.hurry.Statement.{statement}
 use Rattle.listing.proofs.hurry.hurry.Tie as tie
@@ -14,7 +14,7 @@ use Rattle.listing.proofs.hurry.hurry.Tie as tie
 abbrev Inv-loop : tie.InvT-loop
 Inv-loop s b place first memory₀ out₀ d core₀ levels₀ ring₀ c₀ at₀ number₀ memory out core levels ring c at number =
     (length memory ≡ length memory₀) × (length out ≡ length out₀)
-    × Walked s c₀ (desk b memory₀ out₀ place first) c (desk (boardNow b core levels ring) memory out at number)
+    × Walked s c₀ (draft b memory₀ out₀ place first) c (draft (boardNow b core levels ring) memory out at number)
 
 abbrev μ-loop : tie.MeasureT-loop
 μ-loop s b place first memory₀ out₀ d core₀ levels₀ ring₀ c₀ at₀ number₀ memory out core levels ring c at number = length s - c .place
@@ -46,7 +46,7 @@ returns : tie.Need-returns Inv-loop μ-loop
 returns c =
     let l = c .before .before .before .before in
     let a = l .before .before .before .before .before .before .before .before .args in
-    subst (λ (r : Hurried). Hurries (a .s .now) (a .from) (desk (a .b) (a .memory .now) (a .out .now) (a .place) (a .first)) r (l .loop .memory) (l .loop .out)) (sym (c .stopped .ensures))
+    subst (λ (r : Hurried). Hurries (a .s .now) (a .from) (draft (a .b) (a .memory .now) (a .out .now) (a .place) (a .first)) r (l .loop .memory) (l .loop .out)) (sym (c .stopped .ensures))
     (record { cursor = l .loop .c; stands = c .before .before .before .next .ensures .told; walked = l .loop .inv .2 })
 
 hasten-requires : tie.Need-hasten-requires Inv-loop μ-loop

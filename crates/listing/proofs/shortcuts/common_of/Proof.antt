@@ -24,20 +24,20 @@ signalled-requires c κs = tt
 enum-told : tie.Need-enum-told
 enum-told c = search needs
 
-other-requires : tie.Need-other-requires
-other-requires c κs = tt
+uncommon-requires : tie.Need-uncommon-requires
+uncommon-requires c κs = tt
 
 enum-told-2 : tie.Need-enum-told-2
 enum-told-2 c = search needs
 
-other-requires-2 : tie.Need-other-requires-2
-other-requires-2 c κs = tt
+uncommon-requires-2 : tie.Need-uncommon-requires-2
+uncommon-requires-2 c κs = tt
 
 enum-told-3 : tie.Need-enum-told-3
 enum-told-3 c = search needs
 
-other-requires-3 : tie.Need-other-requires-3
-other-requires-3 c κs = tt
+uncommon-requires-3 : tie.Need-uncommon-requires-3
+uncommon-requires-3 c κs = tt
 
 returns : tie.Need-returns
 returns c =
@@ -68,11 +68,11 @@ common-of-spec =
     enum-known-e-2
     signalled-requires
     enum-told
-    other-requires
+    uncommon-requires
     enum-told-2
-    other-requires-2
+    uncommon-requires-2
     enum-told-3
-    other-requires-3
+    uncommon-requires-3
     returns
     returns-2
     returns-3

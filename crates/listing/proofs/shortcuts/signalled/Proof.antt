@@ -23,20 +23,20 @@ enum-told-5 c = search needs
 enum-told-6 : tie.Need-enum-told-6
 enum-told-6 c = search needs
 
-other-requires : tie.Need-other-requires
-other-requires c κs = tt
+uncommon-requires : tie.Need-uncommon-requires
+uncommon-requires c κs = tt
 
-other-requires-2 : tie.Need-other-requires-2
-other-requires-2 c κs = tt
+uncommon-requires-2 : tie.Need-uncommon-requires-2
+uncommon-requires-2 c κs = tt
 
-other-requires-3 : tie.Need-other-requires-3
-other-requires-3 c κs = tt
+uncommon-requires-3 : tie.Need-uncommon-requires-3
+uncommon-requires-3 c κs = tt
 
-other-requires-4 : tie.Need-other-requires-4
-other-requires-4 c κs = tt
+uncommon-requires-4 : tie.Need-uncommon-requires-4
+uncommon-requires-4 c κs = tt
 
-other-requires-5 : tie.Need-other-requires-5
-other-requires-5 c κs = tt
+uncommon-requires-5 : tie.Need-uncommon-requires-5
+uncommon-requires-5 c κs = tt
 
 returns : tie.Need-returns
 returns c = sym (ap (λ (x : Signal). commonSignal x (c .before .before .args .after)) (c .enum-told .given .1))
@@ -62,15 +62,15 @@ signalled-spec =
     (tie.spec
     enum-told
     enum-told-2
-    other-requires
+    uncommon-requires
     enum-told-3
-    other-requires-2
+    uncommon-requires-2
     enum-told-4
-    other-requires-3
+    uncommon-requires-3
     enum-told-5
-    other-requires-4
+    uncommon-requires-4
     enum-told-6
-    other-requires-5
+    uncommon-requires-5
     returns
     returns-2
     returns-3

@@ -1,4 +1,4 @@
--- At each turn the events from the start of the file on are walked (specs/Desk.antt).
+-- At each turn the events from the start of the file on are walked (specs/Draft.antt).
 use Prim.Native.Nat.{_-_}
 use mathlib.Core.Path.{_≡_, refl, sym, ap, subst, _∙_}
 use mathlib.Core.Bool.{false≢true}
@@ -15,7 +15,7 @@ use Rattle.text.specs.Listing.{body}
 use Rattle.run.proofs.Ways.{end-stood, way-ends}
 use Rattle.files.specs.Pieces.{Piece}
 use Rattle.lines.proofs.Printing.{printed-piece}
-use Rattle.listing.specs.Desk.{desk, Walked}
+use Rattle.listing.specs.Draft.{draft, Walked}
 use Rattle.listing.proofs.Body.{in-reach}
 use Rattle.listing.proofs.Walking.{walked-start, walked-then, walked-on, walked-over, tail-room, line-room, number-small}
 use Rattle.listing.proofs.whole.put_body.Statement.{statement}
@@ -24,7 +24,7 @@ use Rattle.listing.proofs.whole.put_body.Tie as tie
 abbrev Inv-loop : tie.InvT-loop
 Inv-loop s memory₀ out₀ start at₀ b₀ c₀ number₀ memory out at b c number =
     (length memory ≡ length memory₀) × (length out ≡ length out₀)
-    × Walked s (record { place = 0 }) (desk b₀ memory₀ out₀ start 1) c (desk b memory out at number)
+    × Walked s (record { place = 0 }) (draft b₀ memory₀ out₀ start 1) c (draft b memory out at number)
 
 abbrev μ-loop : tie.MeasureT-loop
 μ-loop s memory₀ out₀ start at₀ b₀ c₀ number₀ memory out at b c number = length s - c .place

@@ -2,7 +2,7 @@ use mathlib.Core.Path.{sym, _∙_}
 use borrow.Author.Needs.{needs}
 use Rattle.rules.proofs.Choice.{cond-true, cond-false}
 use Rattle.moves.specs.Ready.{fateOf}
-use Rattle.moves.proofs.Entries.{load-test}
+use Rattle.moves.proofs.Tested.{load-test}
 use Rattle.moves.proofs.fates.fate_of.Statement.{statement}
 use Rattle.moves.proofs.fates.fate_of.Tie as tie
 

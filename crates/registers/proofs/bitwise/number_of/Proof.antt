@@ -7,7 +7,7 @@ use borrow.Author.Needs.{needs}
 use lib.ListN.{length, getD, drop}
 use Rattle.rules.specs.Bits.{flag, number}
 use Rattle.rules.proofs.Readings.{flag-le}
-use Rattle.registers.proofs.Numbers.{drop-lt, drop-less}
+use Rattle.registers.proofs.BitNumbers.{drop-lt, drop-less}
 use Rattle.registers.proofs.bitwise.number_of.Statement.{statement}
 use Rattle.registers.proofs.bitwise.number_of.Tie as tie
 

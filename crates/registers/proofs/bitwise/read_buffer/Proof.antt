@@ -1,7 +1,7 @@
 use mathlib.Core.Path.{_∙_}
 use borrow.Author.Needs.{needs}
 use Rattle.rules.specs.Registers.{bufferBits, registers, readFrom}
-use Rattle.registers.proofs.Numbers.{bitsOf-4}
+use Rattle.registers.proofs.BitNumbers.{bitsOf-4}
 use Rattle.registers.proofs.bitwise.read_buffer.Statement.{statement}
 use Rattle.registers.proofs.bitwise.read_buffer.Tie as tie
 

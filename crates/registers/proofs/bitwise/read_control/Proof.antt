@@ -3,7 +3,7 @@ use mathlib.Core.Path.{_∙_}
 use borrow.Author.Needs.{needs}
 use Rattle.rules.specs.Registers.{controlBits, registers, readFrom}
 use Rattle.record.specs.Capped.{cappedBoard}
-use Rattle.registers.proofs.Numbers.{bitsOf-3, number-padded}
+use Rattle.registers.proofs.BitNumbers.{bitsOf-3, number-padded}
 use Rattle.registers.proofs.bitwise.read_control.Statement.{statement}
 use Rattle.registers.proofs.bitwise.read_control.Tie as tie
 

@@ -9,7 +9,7 @@ use Rattle.rules.specs.declared.Event.the-variants.{PowerUp, Write, Read, Signa
 use Rattle.rules.proofs.Choice.{cond-true, cond-false}
 use Rattle.files.specs.File.{signalOf, eventAt, eventOf}
 use Rattle.files.specs.Laws.{powerUp, write, read}
-use Rattle.files.proofs.Lengths.{room}
+use Rattle.files.proofs.Lengths.{record-room}
 use borrow.Author.Needs.{needs}
 use Rattle.session.proofs.fields.event_at.Statement.{statement}
 use Rattle.session.proofs.fields.event_at.Tie as tie
@@ -25,7 +25,7 @@ settings-at-requires c κs =
     let m = c in
     let z = m .before .before .before in
     let e = sym (m .before .byte-at .ensures .0) ∙ m .match .keys1 in
-    omega (arith, room (now (z .args .s)) (z .args .at) 1 7 powerUp e (z .pre .1))
+    omega (arith, record-room (now (z .args .s)) (z .args .at) 1 7 powerUp e (z .pre .1))
 
 add-byte-at : tie.Need-add-byte-at
 add-byte-at c = search needs
@@ -35,7 +35,7 @@ byte-at-requires-2 c κs =
     let m = c in
     let z = m .before .before .before in
     let e = sym (m .before .byte-at .ensures .0) ∙ m .match .keys2 in
-    omega (arith, room (now (z .args .s)) (z .args .at) 2 6 write e (z .pre .1))
+    omega (arith, record-room (now (z .args .s)) (z .args .at) 2 6 write e (z .pre .1))
 
 add-quad-at : tie.Need-add-quad-at
 add-quad-at c = search needs
@@ -45,7 +45,7 @@ quad-at-requires c κs =
     let m = c .before in
     let z = m .before .before .before in
     let e = sym (m .before .byte-at .ensures .0) ∙ m .match .keys2 in
-    omega (arith, room (now (z .args .s)) (z .args .at) 2 6 write e (z .pre .1))
+    omega (arith, record-room (now (z .args .s)) (z .args .at) 2 6 write e (z .pre .1))
 
 add-byte-at-2 : tie.Need-add-byte-at-2
 add-byte-at-2 c = search needs
@@ -55,7 +55,7 @@ byte-at-requires-3 c κs =
     let m = c in
     let z = m .before .before .before in
     let e = sym (m .before .byte-at .ensures .0) ∙ m .match .keys3 in
-    omega (arith, room (now (z .args .s)) (z .args .at) 3 2 read e (z .pre .1))
+    omega (arith, record-room (now (z .args .s)) (z .args .at) 3 2 read e (z .pre .1))
 
 signal-of-requires : tie.Need-signal-of-requires
 signal-of-requires c κs = search needs

@@ -26,8 +26,8 @@ next-requires c κs = tt
 enum-known-n : tie.Need-enum-known-n Inv-loop μ-loop
 enum-known-n c = search needs
 
-coded-requires : tie.Need-coded-requires Inv-loop μ-loop
-coded-requires c κs = search needs
+sized-requires : tie.Need-sized-requires Inv-loop μ-loop
+sized-requires c κs = search needs
 
 step-requires : tie.Need-step-requires Inv-loop μ-loop
 step-requires c κs = tt
@@ -43,7 +43,7 @@ loop-again c =
     let r = c .before .before .before .before .before in
     let f = r .before .before .before .before in
     let z = f .before .before in
-    replaying-on _ (z .before .loop .inv) _ _ _ _ _ (sym (z .next .ensures .told) ∙ f .n .given .1) (r .before .coded .ensures) (r .step .ensures) (r .step .kept .1 .0)
+    replaying-on _ (z .before .loop .inv) _ _ _ _ _ (sym (z .next .ensures .told) ∙ f .n .given .1) (r .before .sized .ensures) (r .step .ensures) (r .step .kept .1 .0)
 
 enum-told : tie.Need-enum-told Inv-loop μ-loop
 enum-told c = search needs
@@ -66,7 +66,7 @@ replay-spec =
     loop-holds
     next-requires
     enum-known-n
-    coded-requires
+    sized-requires
     step-requires
     loop-less
     loop-again

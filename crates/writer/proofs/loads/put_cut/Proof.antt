@@ -5,7 +5,7 @@ use lib.ListN.{length}
 use denote.Ref.{now}
 use Rattle.files.proofs.Joined.{piece-length}
 use Rattle.cuts.specs.Cut.{Cut}
-use Rattle.cuts.proofs.Numbers.{mask-small}
+use Rattle.cuts.proofs.ChosenNumbers.{mask-small}
 use Rattle.cuts.proofs.Given.{GoodCut, good-cut}
 use Rattle.writer.specs.Promises.{cutOf}
 use Rattle.writer.proofs.Orders.{countable}

@@ -3,13 +3,13 @@ use mathlib.Core.Path.{sym, _∙_}
 use mathlib.Core.Bool.{_&&_}
 use lib.Dec.{ltb}
 use Rattle.rules.proofs.Choice.{and-true}
-use Rattle.files.specs.Writing.{fit}
+use Rattle.files.specs.Writing.{fitWidths}
 use Rattle.writer.proofs.Widths.{none-told}
 use Rattle.writer.proofs.rows.are_none.Statement.{statement}
 use Rattle.writer.proofs.rows.are_none.Tie as tie
 
 returns : tie.Need-returns
-unfolding fit
+unfolding fitWidths
 returns c =
     let a = c .args in
     (λ i. none-told (a .c) i && (none-told (a .d) i && none-told (a .e) i))

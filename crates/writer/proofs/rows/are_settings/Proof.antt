@@ -3,12 +3,12 @@ use mathlib.Core.Path.{sym}
 use mathlib.Core.Bool.{_&&_}
 use lib.Dec.{ltb}
 use Rattle.rules.proofs.Choice.{and-true}
-use Rattle.files.specs.Writing.{fit}
+use Rattle.files.specs.Writing.{fitWidths}
 use Rattle.writer.proofs.rows.are_settings.Statement.{statement}
 use Rattle.writer.proofs.rows.are_settings.Tie as tie
 
 returns : tie.Need-returns
-unfolding fit
+unfolding fitWidths
 returns c =
     let a = c .args in
     λ i. ltb (a .a) 256 && (ltb (a .b) 256 && (ltb (a .c) 256 && (ltb (a .d) 256 && sym (and-true (ltb (a .e) 65536)) i)))

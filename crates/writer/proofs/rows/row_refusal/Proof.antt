@@ -13,7 +13,7 @@ use Rattle.rules.specs.Refusals.{firstOf}
 use Rattle.rules.proofs.Choice.{cond-true, cond-false}
 use Rattle.files.specs.File.{lengthOf}
 use Rattle.files.specs.Row.{field}
-use Rattle.files.specs.Writing.{widths, fit, rowRefusal}
+use Rattle.files.specs.Writing.{widths, fitWidths, rowRefusal}
 use Rattle.files.proofs.RowsGiven.{row-numbers}
 use Rattle.writer.proofs.rows.row_refusal.Statement.{statement}
 use Rattle.writer.proofs.rows.row_refusal.Tie as tie
@@ -23,14 +23,14 @@ known : (c : tie.Else1) → eqb (lengthOf (field (c .before .before .args .t1) 0
 known c = ne-eqb _ 0 (λ z. c .if1 .left (c .before .length-of .ensures .told ∙ z))
 
 -- and the fields of the row are those that were tested
-row : tie.After-fits2 → List ℕ
+row : tie.After-fits-widths → List ℕ
 row c = c .before .before .before .args .t1
 
-told : (c : tie.After-fits2) (t : Bool) → c .fits2 .result ≡ t → fit (drop 1 (row c)) (widths (field (row c) 0)) ≡ t
+told : (c : tie.After-fits-widths) (t : Bool) → c .fits-widths .result ≡ t → fitWidths (drop 1 (row c)) (widths (field (row c) 0)) ≡ t
 unfolding row
 told c t e =
     let l = good-length (eInt w32) 6 (row c) _ (c .before .before .before .good .0) in
-    ap (λ (x : List ℕ). fit (drop 1 x) (widths (field (row c) 0))) (row-numbers (row c) l) ∙ sym (c .fits2 .ensures) ∙ e
+    ap (λ (x : List ℕ). fitWidths (drop 1 x) (widths (field (row c) 0))) (row-numbers (row c) l) ∙ sym (c .fits-widths .ensures) ∙ e
 
 array-read-kind : tie.Need-array-read-kind
 array-read-kind c = search needs
@@ -42,23 +42,23 @@ returns : tie.Need-returns
 unfolding rowRefusal firstOf
 returns c = sym (cond-true _ _ _ (eq-eqb _ 0 (sym (c .before .length-of .ensures .told) ∙ c .if1 .taken)))
 
-array-read-fits : tie.Need-array-read-fits
-array-read-fits c = search needs
+array-read-fits-widths : tie.Need-array-read-fits-widths
+array-read-fits-widths c = search needs
 
-array-read-fits-2 : tie.Need-array-read-fits-2
-array-read-fits-2 c = search needs
+array-read-fits-widths-2 : tie.Need-array-read-fits-widths-2
+array-read-fits-widths-2 c = search needs
 
-array-read-fits-3 : tie.Need-array-read-fits-3
-array-read-fits-3 c = search needs
+array-read-fits-widths-3 : tie.Need-array-read-fits-widths-3
+array-read-fits-widths-3 c = search needs
 
-array-read-fits-4 : tie.Need-array-read-fits-4
-array-read-fits-4 c = search needs
+array-read-fits-widths-4 : tie.Need-array-read-fits-widths-4
+array-read-fits-widths-4 c = search needs
 
-array-read-fits-5 : tie.Need-array-read-fits-5
-array-read-fits-5 c = search needs
+array-read-fits-widths-5 : tie.Need-array-read-fits-widths-5
+array-read-fits-widths-5 c = search needs
 
-fits-requires : tie.Need-fits-requires
-fits-requires c κs = search needs
+fits-widths-requires : tie.Need-fits-widths-requires
+fits-widths-requires c κs = search needs
 
 returns-2 : tie.Need-returns-2
 unfolding rowRefusal firstOf row
@@ -75,11 +75,11 @@ row-refusal-spec =
     array-read-kind
     length-of-requires
     returns
-    array-read-fits
-    array-read-fits-2
-    array-read-fits-3
-    array-read-fits-4
-    array-read-fits-5
-    fits-requires
+    array-read-fits-widths
+    array-read-fits-widths-2
+    array-read-fits-widths-3
+    array-read-fits-widths-4
+    array-read-fits-widths-5
+    fits-widths-requires
     returns-2
     returns-3)
