@@ -22,7 +22,7 @@ pub fn length_of(kind: u32) -> u32
     }
 }
 
-// 01: kinds 4 to 9; any kind above them counts as 9, and no file has one.
+// 01: "4 tick, 5 outside clock, 6 trigger, 7 calibration passed, 8 failed, 9 settled"; any other kind counts as 9.
 pub fn signal_of(kind: u32) -> Signal
     ensures { λ r. ⌜ Told (signalOf kind) r ⌝ }
 {
@@ -36,7 +36,7 @@ pub fn signal_of(kind: u32) -> Signal
     }
 }
 
-// 01: "4 tick, 5 outside clock, 6 trigger, 7 calibration passed, 8 failed, 9 settled"
+// And back: the kind of a signal.
 pub fn kind_of(s: Signal) -> u32
     ensures { λ r. ⌜ Told (signalKind s) r ⌝ }
 {
