@@ -105,8 +105,8 @@ enum {
 /* 08h, sample rate: D00-D15 r/w, RATE 00-15, the divisor */
 #define NERGUTSAI_SAMPLE_RATE_MASK UINT32_C(0xFFFF)
 
-/* 0Ch, BOR */
-#define NERGUTSAI_BOR_SIZE_MASK UINT32_C(0x0000F)           /* D00-D03 r/w: the active buffer holds 8 * 2^SIZE values */
+/* 0Ch, BOR. The active buffer holds 8 * 2^m values, m being the lesser of SIZE and the fitted code. */
+#define NERGUTSAI_BOR_SIZE_MASK UINT32_C(0x0000F)           /* D00-D03 r/w */
 #define NERGUTSAI_BOR_EXTERNAL_CLOCK UINT32_C(0x00010)      /* D04 r/w */
 #define NERGUTSAI_BOR_ENABLE_CLOCK UINT32_C(0x00020)        /* D05 r/w */
 #define NERGUTSAI_BOR_CLOCK_READY UINT32_C(0x00040)         /* D06 r   */

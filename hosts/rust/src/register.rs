@@ -38,7 +38,7 @@ pub const EOF: u32 = 0x10000;
 pub mod bcr {
     /// D00 r/w: bursts are enabled.
     pub const BURST_ENABLED: u32 = 0x0001;
-    /// D01 r: a trigger will be accepted.
+    /// D01 r: bursts are enabled, and none is in progress.
     pub const BURST_READY: u32 = 0x0002;
     /// D02 r/w: starts a burst; reads whether one that was started so is in progress.
     pub const BURST_TRIGGER: u32 = 0x0004;
@@ -76,9 +76,9 @@ pub mod interrupt {
     pub const BUFFER_EMPTY: u32 = 2;
     /// The buffer is less than a quarter full.
     pub const BUFFER_LOW_QUARTER: u32 = 3;
-    /// The buffer is three quarters full.
+    /// The buffer is at least three quarters full.
     pub const BUFFER_HIGH_QUARTER: u32 = 4;
-    /// A trigger will be accepted.
+    /// Bursts are enabled, and none is in progress.
     pub const BURST_READY: u32 = 5;
     /// The buffer takes values.
     pub const LOAD_READY: u32 = 6;
@@ -88,13 +88,14 @@ pub mod interrupt {
 
 /// The bits of 0Ch, the buffer operations register.
 pub mod bor {
-    /// D00-D03 r/w: the size code; the active buffer holds 8·2^code values.
+    /// D00-D03 r/w: the size code; the active buffer holds 8·2^m values, m being the lesser of it and the fitted code.
     pub const SIZE_MASK: u32 = 0x0000F;
-    /// D04 r/w: the clock is an outside or a software clock; else the rate generator.
+    /// D04 r/w: outside and software clocks are awaited; else ticks of the rate generator, which with
+    /// [`super::adjustable_clock::SELECT_ALTERNATE_REFERENCE`] are in either case.
     pub const EXTERNAL_CLOCK: u32 = 0x00010;
     /// D05 r/w: clocking is enabled.
     pub const ENABLE_CLOCK: u32 = 0x00020;
-    /// D06 r: an outside or a software clock will be accepted.
+    /// D06 r: EXTERNAL CLOCK is set, and the board is neither settling nor calibrating.
     pub const CLOCK_READY: u32 = 0x00040;
     /// D07 w: one software clock.
     pub const SW_CLOCK: u32 = 0x00080;
@@ -102,7 +103,7 @@ pub mod bor {
     pub const CIRCULAR_BUFFER: u32 = 0x00100;
     /// D09 r/w: asks to load a circular buffer.
     pub const LOAD_REQUEST: u32 = 0x00200;
-    /// D10 r: the buffer takes values.
+    /// D10 r: the buffer is not closed: it takes values.
     pub const LOAD_READY: u32 = 0x00400;
     /// D11 w: empties the buffer.
     pub const CLEAR_BUFFER: u32 = 0x00800;
