@@ -2,7 +2,7 @@
 use Prim.Native.Nat.{ℕ, zero, suc, _+_, _/_, _%_, _^_, _≤_, _<_}
 use mathlib.Core.Path.{_≡_, refl, sym, ap, _∙_}
 use mathlib.Core.Logic.{_≢_, _⊎_, inl, inr, ⊎-elim}
-use mathlib.Core.Bool.{true, false, true≢false}
+use mathlib.Core.Bool.{true, false, cond, true≢false}
 use mathlib.Core.List.{List, [], _∷_}
 use native.Mathlib.Nat.{le-refl, le-of-eq, pow-suc, div-div-eq-div-mul}
 use native.Mathlib.Decide.{ℕ-discrete}
@@ -14,11 +14,21 @@ use lib.ListN.{length}
 use Rattle.rules.specs.Bits.{bit, active}
 use Rattle.laws.specs.Moved.{Among, LowestFrom}
 use Rattle.rules.proofs.Choice.{cases, either}
+use Rattle.rules.proofs.Readings.{bit-mod}
 use Rattle.laws.proofs.Among.{among-nil, among-head, among-tail, among-cons, Ascending, ascending-nil, ascending-cons}
 
 -- one digit more is taken off
 pub halved : (mask k : ℕ) → mask / 2 ^ suc k ≡ mask / 2 ^ k / 2
 halved mask k = ap (λ (x : ℕ). mask / x) (pow-suc 2 k) ∙ sym (div-div-eq-div-mul mask (2 ^ k) 2)
+
+-- the bits from w up are none of theirs
+pub active-low : (n k w mask : ℕ) → n + k ≤ w → active n k (mask % 2 ^ w) ≡ active n k mask
+unfolding active
+active-low zero k w mask h = refl
+active-low (suc n) k w mask h =
+    let t = bit-mod w k mask (omega arith) in
+    let rest = active-low n (suc k) w mask (omega arith) in
+    λ i. cond (t i) (k ∷ rest i) (rest i)
 
 -- ---- Which
 

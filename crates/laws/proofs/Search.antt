@@ -8,7 +8,7 @@ use native.Mathlib.Omega.{arith}
 use borrow.Author.Tests.{eq-eqb, ne-eqb, ltb-true, ltb-false}
 use lib.Arith.{digits-div, digits-mod}
 use lib.Bits.{bitAnd, and-step, and-self, and-le-r}
-use lib.Count.{trailingZeros, under, trailing-of-zero}
+use lib.Count.{trailingZeros, under}
 use lib.Dec.{eqb, ltb}
 use lib.Pow.{pow-pos}
 use Rattle.rules.specs.Bits.{active, activeFrom, headOr}
@@ -128,8 +128,3 @@ zeros-below (suc n) (suc w) x h p l = go (x % 2) refl (λ e. zeros-below n w (x 
     go : (b : ℕ) → x % 2 ≡ b → (x % 2 ≡ 0 → trailingZeros w (x / 2) < n) → under b (trailingZeros w (x / 2)) < suc n
     go zero e f = omega (arith, f e)
     go (suc b) e f = omega arith
-
--- a mask with a channel is not 0
-pub some-mask : (mask : ℕ) → trailingZeros wordBits mask < 20 → 0 < mask
-some-mask zero h = absurd (omega (arith, trailing-of-zero wordBits, h))
-some-mask (suc m) h = omega arith

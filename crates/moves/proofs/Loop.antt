@@ -15,11 +15,12 @@ use Rattle.rules.specs.Bits.{bit, activeFrom}
 use Rattle.rules.specs.Clocks.{coded}
 use Rattle.rules.specs.declared.Ring.{Ring}
 use Rattle.rules.proofs.Choice.{cond-true, cond-false}
-use Rattle.laws.specs.Search.{without, ByZeros}
-use Rattle.laws.proofs.Search.{some-mask, group-zeros}
+use Rattle.laws.specs.Search.{without}
+use Rattle.laws.proofs.Search.{without-less, zeros-below, group-zeros}
 use Rattle.moves.specs.Ready.{Ready}
 use Rattle.moves.specs.Deal.{Dealing, dealing, front, placePassed, placeNow, dealOne, dealAll}
 use Rattle.moves.proofs.Rings.{ready-good, left-placed}
+use Rattle.moves.proofs.Tested.{no-channels}
 
 -- ---- One value
 
@@ -51,16 +52,16 @@ one-dealt binary again d k levels ring marks m v level ring′ m′ l e r n =
 
 -- ---- The loop
 
--- The channels that wait are those of `waiting`, and k is the lowest; to deal to them from here is to deal to all from s₀.
-pub record Inv (mask : ℕ) (binary again : Bool) (d : ℕ) (s₀ s : Dealing) (waiting k : ℕ) : Type 0 where
-  pub lowest : k ≡ trailingZeros 32 waiting
-  pub ready : k < 20 → Ready d (s .ring) (s .memory)
+-- The channels that wait are those of `waiting`; to deal to them from here is to deal to all from s₀.
+pub record Inv (mask : ℕ) (binary again : Bool) (d : ℕ) (s₀ s : Dealing) (waiting : ℕ) : Type 0 where
+  pub small : waiting < 2 ^ 20
+  pub ready : 0 < waiting → Ready d (s .ring) (s .memory)
   pub same : length (s .memory) ≡ length (s₀ .memory)
   pub whole : dealAll binary again d (activeFrom 0 waiting) s ≡ dealAll binary again d (activeFrom 0 mask) s₀
 
-pub inv-start : {mask : ℕ} {binary again : Bool} {d : ℕ} {s : Dealing} → (0 < mask → Ready d (s .ring) (s .memory))
-    → Inv mask binary again d s s mask (trailingZeros 32 mask)
-inv-start {mask} r = record { lowest = refl; ready = λ h. r (some-mask mask h); same = refl; whole = refl }
+pub inv-start : {mask : ℕ} {binary again : Bool} {d : ℕ} {s : Dealing} → mask < 2 ^ 20 → (0 < mask → Ready d (s .ring) (s .memory))
+    → Inv mask binary again d s s mask
+inv-start h r = record { small = h; ready = r; same = refl; whole = refl }
 
 -- nothing is dealt where nothing is stored
 dealt-empty : (binary again : Bool) (d : ℕ) (ks : List ℕ) (s : Dealing) → s .ring .count ≡ 0 → dealAll binary again d ks s ≡ s
@@ -68,40 +69,38 @@ unfolding dealAll
 dealt-empty binary again d [] s h = refl
 dealt-empty binary again d (k ∷ ks) s h = cond-true _ _ _ (eq-eqb (s .ring .count) 0 h)
 
-module _ {mask : ℕ} {binary again : Bool} {d : ℕ} {s₀ s : Dealing} {waiting k : ℕ} (v : Inv mask binary again d s₀ s waiting k) where
-  pub inv-some : k < 20 → 0 < waiting
-  inv-some h = some-mask waiting (rw (v .lowest) at h)
+module _ {mask : ℕ} {binary again : Bool} {d : ℕ} {s₀ s : Dealing} {waiting : ℕ} (v : Inv mask binary again d s₀ s waiting) where
+  -- the lowest channel that waits
+  pub inv-below : 0 < waiting → trailingZeros 32 waiting < 20
+  inv-below h = zeros-below 20 32 waiting (omega arith) h (v .small)
 
-  -- the channels that wait: this one, and those after it; or none
-  zeros : ByZeros 20 0 waiting (without waiting) k
-  zeros = rw (← v .lowest) at (group-zeros waiting)
-
-  inv-dealt : k < 20 → zero < s .ring .count
-      → Inv mask binary again d s₀ (dealOne binary again d k s) (without waiting) (trailingZeros 32 (without waiting))
+  inv-dealt : 0 < waiting → zero < s .ring .count
+      → Inv mask binary again d s₀ (dealOne binary again d (trailingZeros 32 waiting) s) (without waiting)
   unfolding dealOne dealAll
   inv-dealt h n =
       let r = v .ready h in
       let m = left-placed again d (placeNow s) (ready-good r) n in
       let on = cond-false _ _ _ (ne-eqb (s .ring .count) 0 (λ e. omega (arith, e, n))) in
       record {
-        lowest = refl;
+        small = omega (arith, without-less waiting h, v .small);
         ready = λ _. record { first = m .good .first-lt; count = m .good .count-le; enough = m .good .enough; small = r .small };
         same = m .same .long ∙ v .same;
-        whole = sym on ∙ rw (zeros .there h) at (v .whole);
+        whole = sym on ∙ rw (group-zeros waiting .there (inv-below h)) at (v .whole);
       }
 
-  pub inv-turn : {s′ : Dealing} → k < 20 → zero < s .ring .count → s′ ≡ dealOne binary again d k s
-      → Inv mask binary again d s₀ s′ (without waiting) (trailingZeros 32 (without waiting))
-  inv-turn {s′} h n e =
-      subst (λ (x : Dealing). Inv mask binary again d s₀ x (without waiting) (trailingZeros 32 (without waiting))) (sym e) (inv-dealt h n)
+  pub inv-turn : {s′ : Dealing} → 0 < waiting → zero < s .ring .count → s′ ≡ dealOne binary again d (trailingZeros 32 waiting) s
+      → Inv mask binary again d s₀ s′ (without waiting)
+  inv-turn {s′} h n e = subst (λ (x : Dealing). Inv mask binary again d s₀ x (without waiting)) (sym e) (inv-dealt h n)
 
   -- all are dealt, or none is left
-  pub inv-end : ltb k 20 && ltb 0 (s .ring .count) ≡ false → s ≡ dealAll binary again d (activeFrom 0 mask) s₀
+  pub inv-end : ltb 0 waiting && ltb 0 (s .ring .count) ≡ false → s ≡ dealAll binary again d (activeFrom 0 mask) s₀
   unfolding dealAll
-  inv-end h = go (ltb k 20) refl
+  inv-end h = go (ltb 0 waiting) refl
     where
-      go : (t : Bool) → ltb k 20 ≡ t → s ≡ dealAll binary again d (activeFrom 0 mask) s₀
+      go : (t : Bool) → ltb 0 waiting ≡ t → s ≡ dealAll binary again d (activeFrom 0 mask) s₀
       go true e =
           let z : ltb 0 (s .ring .count) ≡ false = sym (ap (λ (t : Bool). t && ltb 0 (s .ring .count)) e) ∙ h in
           sym (dealt-empty binary again d (activeFrom 0 waiting) s (omega (arith, ltb-false 0 (s .ring .count) z))) ∙ v .whole
-      go false e = rw (zeros .none (ltb-false k 20 e)) at (v .whole)
+      go false e =
+          let z : waiting ≡ 0 = omega (arith, ltb-false 0 waiting e) in
+          rw (ap (activeFrom 0) z ∙ no-channels) at (v .whole)

@@ -1,8 +1,9 @@
 -- The tests of the public functions say just what those below count on; and so what the promises say of a core and a ring that fit.
-use Prim.Native.Nat.{ℕ, _≤_, _<_}
-use mathlib.Core.Path.{_≡_, refl, sym, ap}
+use Prim.Native.Nat.{ℕ, _%_, _^_, _≤_, _<_}
+use mathlib.Core.Path.{_≡_, refl, sym, ap, _∙_}
 use mathlib.Core.Bool.{Bool, true, false, cond, _&&_}
 use mathlib.Core.List.{List, []}
+use native.Mathlib.Nat.{mod-lt}
 use native.Mathlib.Omega.{arith}
 use borrow.Author.Tests.{leb-true, leb-false, ltb-true, le-leb, lt-ltb}
 use lib.Dec.{leb}
@@ -13,6 +14,7 @@ use Rattle.rules.specs.declared.Ring.{Ring}
 use Rattle.rules.specs.Clocks.{closed}
 use Rattle.rules.specs.Writes.{writeData}
 use Rattle.rules.proofs.Choice.{cases, and-both, both-and, all-cons, cons-all, all-nil}
+use Rattle.laws.proofs.Actives.{active-low}
 use Rattle.moves.specs.Ready.{Ready, fits, canLoad, fateOf}
 use Rattle.moves.specs.Promises.{loadOf}
 
@@ -42,6 +44,15 @@ no-channels = refl
 pub mask-ready : (ring : Ring) (d : ℕ) (m : List ℕ) (mask ks : ℕ) (t : Bool) → t ≡ fits ring d (length m) → ks ≡ cond t mask 0 → 0 < ks → Ready d ring m
 mask-ready ring d m mask ks true e f h = fits-ready ring d m (sym e)
 mask-ready ring d m mask ks false e f h = absurd (omega (arith, f, h))
+
+-- none above channel 19
+pub mask-small : (mask ks : ℕ) (t : Bool) → ks ≡ cond t (mask % 2 ^ 20) 0 → ks < 2 ^ 20
+mask-small mask ks true f = rw f (mod-lt mask (omega arith))
+mask-small mask ks false f = omega (arith, f)
+
+pub mask-channels : (mask ks : ℕ) (t : Bool) → ks ≡ cond t (mask % 2 ^ 20) 0 → activeFrom 0 ks ≡ activeFrom 0 (cond t mask 0)
+mask-channels mask ks true f = ap (activeFrom 0) f ∙ active-low 20 0 20 mask (omega arith)
+mask-channels mask ks false f = ap (activeFrom 0) f
 
 -- ---- A load
 

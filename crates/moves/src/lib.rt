@@ -57,9 +57,9 @@ pub fn deal(
 {
     let mut ring = x.ring;
     let mut marks: u32 = 0;
-    let mut waiting = mask_if(fits(ring, d, memory.len()), mask);
-    let mut k = u32::trailing_zeros(waiting);
-    while (k < 20) & (0 < ring.count) {
+    let mut waiting = mask_if(fits(ring, d, memory.len()), mask % 1048576);
+    while (0 < waiting) & (0 < ring.count) {
+        let k = u32::trailing_zeros(waiting);
         let passed = pass(ring, again, d, memory);
         let at = k as usize;
         levels[at] = coded(binary, passed.value);
@@ -67,7 +67,6 @@ pub fn deal(
         let after = passed.ring;
         ring = after;
         waiting = waiting & (waiting - 1);
-        k = u32::trailing_zeros(waiting);
     }
     let ended = marks / 65536 % 2 == 1;
     let burst = x.burst;
