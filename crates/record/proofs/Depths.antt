@@ -1,5 +1,5 @@
 -- What is told of sizes is their own where the fitted code is in range.
-use Prim.Native.Nat.{ℕ, _≤_, min}
+use Prim.Native.Nat.{ℕ, _≤_}
 use mathlib.Core.Path.{_≡_, ap, _∙_}
 use native.Mathlib.Nat.{min-eq-left}
 use Rattle.rules.specs.declared.Size.{Size}

@@ -1,5 +1,4 @@
 use borrow.Author.Needs.{needs}
-use Rattle.files.specs.Bytes.{signalKind}
 use Rattle.kinds.proofs.kind_of.Statement.{statement}
 use Rattle.kinds.proofs.kind_of.Tie as tie
 

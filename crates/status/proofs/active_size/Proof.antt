@@ -1,6 +1,6 @@
 -- The lesser of the two codes is the one that counts, and it counts as 15 where it is above.
-use Prim.Native.Nat.{_≤_, min}
-use mathlib.Core.Path.{_≡_, sym, ap, _∙_}
+use Prim.Native.Nat.{min}
+use mathlib.Core.Path.{_≡_, ap, _∙_}
 use native.Mathlib.Omega.{arith}
 use borrow.Author.Needs.{needs}
 use Rattle.rules.specs.Record.{depthOf, activeSize}

@@ -1,4 +1,3 @@
-use mathlib.Core.Bool.{not, _&&_}
 use borrow.Author.Needs.{needs}
 use Rattle.plans.proofs.states.clock_accepted.Statement.{statement}
 use Rattle.plans.proofs.states.clock_accepted.Tie as tie
