@@ -11,10 +11,10 @@ use Rattle.rules.specs.Record.{stateOf}
 use Rattle.rules.specs.Told.{Told}
 use Rattle.board.specs.Promises.{Stepped}
 use Rattle.board.specs.declared.Reply.{Reply}
+use Rattle.files.specs.Row.{eventOfRow}
 use Rattle.layout.specs.Layout.{boardAt, boardRow, toldOf}
 use Rattle.rows.specs.Promises.{rowWritten}
 use Rattle.bridge.specs.Types.{Board, Event}
-use Rattle.bridge.specs.Events.{rowEvent}
 use Rattle.bridge.specs.Calls.{Left, callStatus, answerRow, leftBy, left}
 use Rattle.bridge.specs.Promises.{Called}
 
@@ -34,24 +34,24 @@ not-understood r m e a n p z =
     record { understood = p; row = rw x; memory = rw x; answer = rw x }
 
 understood-left : (r m e a : List ℕ) → callStatus (length r) e (length a) ≡ 0
-    → leftBy r (step (stateOf (boardAt r) m) (rowEvent e)) ≡ left r m e a
+    → leftBy r (step (stateOf (boardAt r) m) (eventOfRow e)) ≡ left r m e a
 unfolding left
 understood-left r m e a z = rw z
 
 -- the record, the event and the step are those of the row and of the numbers
 module _ (r m e a r′ m′ a′ : List ℕ) (b : Board) (ev : Event) (y : Reply) where
   pub understood :
-      callStatus (length r) e (length a) ≡ 0 → length r ≡ 55 → Told (toldOf r) b → ev ≡ rowEvent e → Stepped b m ev y m′
+      callStatus (length r) e (length a) ≡ 0 → length r ≡ 55 → Told (toldOf r) b → ev ≡ eventOfRow e → Stepped b m ev y m′
       → a′ ≡ answerRow (y .answer) → r′ ≡ cond (eqb (y .answer .refusal) 0) (boardRow (y .board)) r
       → Called r m e a 0 r′ m′ a′
   understood z long told ee s pa pr =
       let bb = read-whole r b long told in
       let o = understood-left r m e a z in
-      let w : step (stateOf b m) ev ≡ step (stateOf (boardAt r) m) (rowEvent e) =
+      let w : step (stateOf b m) ev ≡ step (stateOf (boardAt r) m) (eventOfRow e) =
       λ i. step (stateOf (bb i) m) (ee i) in
-      let wa : y .answer ≡ (step (stateOf (boardAt r) m) (rowEvent e)) .answer =
+      let wa : y .answer ≡ (step (stateOf (boardAt r) m) (eventOfRow e)) .answer =
       s .answer ∙ ap (λ (x : Outcome). x .answer) w in
-      let wb : y .board ≡ (step (stateOf (boardAt r) m) (rowEvent e)) .state .board =
+      let wb : y .board ≡ (step (stateOf (boardAt r) m) (eventOfRow e)) .state .board =
       s .board ∙ ap (λ (x : Outcome). x .state .board) w in
       record {
         understood = sym z;

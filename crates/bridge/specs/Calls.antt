@@ -1,4 +1,5 @@
--- A call: a record as a row of 55 numbers, the sample memory, an event as a row of 6, and room for an answer of 4.
+-- A call: a record as a row of 55 numbers, the sample memory, an event as a row of 6 (that of files/specs/Row.antt), and room for an
+-- answer of 4.
 -- A rate question: a record as a row of 55 numbers, and room for 3 figures.
 use Prim.Native.Nat.{ℕ}
 use mathlib.Core.Path.{_≡_}
@@ -9,9 +10,9 @@ use lib.ListN.{length}
 use Rattle.rules.specs.Step.{Outcome, step}
 use Rattle.rules.specs.Rates.{rates}
 use Rattle.rules.specs.Record.{stateOf}
+use Rattle.files.specs.Row.{eventOfRow}
 use Rattle.layout.specs.Layout.{at, boardAt, boardRow}
 use Rattle.bridge.specs.Types.{Answer, Figures}
-use Rattle.bridge.specs.Events.{rowEvent}
 
 -- the lengths of a call that is looked at
 pub record CallFits (row : ℕ) (e : List ℕ) (answer : ℕ) : Type 0 where
@@ -50,7 +51,7 @@ leftBy row o =
 unfoldable pub left : List ℕ → List ℕ → List ℕ → List ℕ → Left
 left row memory e answer =
     cond (eqb (callStatus (length row) e (length answer)) 0)
-    (leftBy row (step (stateOf (boardAt row) memory) (rowEvent e)))
+    (leftBy row (step (stateOf (boardAt row) memory) (eventOfRow e)))
     (record { row = row; memory = memory; answer = answer })
 
 -- ---- The rate question

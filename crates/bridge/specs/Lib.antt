@@ -1,5 +1,4 @@
 pub mod Types
-pub mod Events
 pub mod Calls
 pub mod Promises
 pub mod Unique

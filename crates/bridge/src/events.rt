@@ -2,7 +2,7 @@
 ghost use mathlib.Core.Path.{_≡_};
 ghost use lib.ListN.{length};
 ghost use Rattle.files.specs.File.{eventOf};
-ghost use Rattle.bridge.specs.Events.{rowEvent};
+ghost use Rattle.files.specs.Row.{eventOfRow};
 use kinds::signal_of;
 use rules::Event;
 use rules::Settings;
@@ -21,7 +21,7 @@ fn event_of(kind: u32, offset: u32, value: u32, settings: Settings) -> Event
 
 pub(crate) fn row_event(event: &[u32]) -> Event
     requires { ⌜ length (now event) ≡ 6 ⌝ }
-    ensures { λ r. ⌜ r ≡ rowEvent (now (event .entry)) ⌝ }
+    ensures { λ r. ⌜ r ≡ eventOfRow (now (event .entry)) ⌝ }
 {
     let first = event[1];
     let second = event[2];

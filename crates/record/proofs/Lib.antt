@@ -1,4 +1,3 @@
 -- What the functions' proofs cite; each file opens with what it shows.
-pub mod Shifts
 pub mod Depths
 pub mod Limits

@@ -80,9 +80,9 @@ pub mod interrupt {
     pub const BUFFER_HIGH_QUARTER: u32 = 4;
     /// Bursts are enabled, and none is in progress.
     pub const BURST_READY: u32 = 5;
-    /// The buffer takes values.
+    /// The buffer is not closed.
     pub const LOAD_READY: u32 = 6;
-    /// The buffer no longer takes values.
+    /// The buffer is closed.
     pub const END_LOAD_READY: u32 = 7;
 }
 
@@ -90,8 +90,8 @@ pub mod interrupt {
 pub mod bor {
     /// D00-D03 r/w: the size code; the active buffer holds 8·2^m values, m being the lesser of it and the fitted code.
     pub const SIZE_MASK: u32 = 0x0000F;
-    /// D04 r/w: outside and software clocks are awaited; else ticks of the rate generator, which with
-    /// [`super::adjustable_clock::SELECT_ALTERNATE_REFERENCE`] are in either case.
+    /// D04 r/w: outside and software clocks are accepted, and no ticks of the rate generator; with
+    /// [`super::adjustable_clock::SELECT_ALTERNATE_REFERENCE`] set it is the ticks in either case.
     pub const EXTERNAL_CLOCK: u32 = 0x00010;
     /// D05 r/w: clocking is enabled.
     pub const ENABLE_CLOCK: u32 = 0x00020;
@@ -103,7 +103,7 @@ pub mod bor {
     pub const CIRCULAR_BUFFER: u32 = 0x00100;
     /// D09 r/w: asks to load a circular buffer.
     pub const LOAD_REQUEST: u32 = 0x00200;
-    /// D10 r: the buffer is not closed: it takes values.
+    /// D10 r: the buffer is not closed.
     pub const LOAD_READY: u32 = 0x00400;
     /// D11 w: empties the buffer.
     pub const CLEAR_BUFFER: u32 = 0x00800;

@@ -1,6 +1,9 @@
 //! Empty slices, in the place of each and of all. hosts/c/empty.c does the same with NULL.
 
+mod power_up;
+
 use nergutsai::*;
+use power_up::UP;
 
 #[test]
 fn every_call_takes_empty_slices() {
@@ -14,17 +17,10 @@ fn every_call_takes_empty_slices() {
     assert_eq!(rate_call(&[], &mut [0; 3]), 1);
     assert_eq!(rate_call(&record, &mut []), 3);
 
-    let up = Event::PowerUp {
-        fitted: 0,
-        range: 0,
-        filter: 0,
-        kit: 0,
-        firmware: 0,
-    };
     let mut board = Record::unpowered();
     let short = Err(Refusal::MemoryTooShort);
-    assert_eq!(event(&mut board, &mut [], up), short);
-    assert!(event(&mut board, &mut memory, up).is_ok());
+    assert_eq!(event(&mut board, &mut [], UP), short);
+    assert!(event(&mut board, &mut memory, UP).is_ok());
     assert_eq!(event(&mut board, &mut [], Event::Tick), short);
 
     let mut file = [0; 64];
@@ -45,7 +41,7 @@ fn every_call_takes_empty_slices() {
     };
     assert_eq!(cut(&one, &mut [], 0), Err(Refusal::NoRoom));
 
-    let end = write(&up.row(), &mut file, 0).expect("it has room");
+    let end = write(&UP.row(), &mut file, 0).expect("it has room");
     assert!(list(&[], &mut []).contains("\nFILE 10 0\n"));
     assert!(list(&file[..end], &mut []).contains("\n1 2 00000000 0 0 0\n"));
     assert_eq!(list_call(&[], &mut [], &mut []), 0);

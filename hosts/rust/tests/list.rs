@@ -1,17 +1,11 @@
 //! Listings through the wrapper: the text, and the function itself on outputs of every sort.
 
 mod common;
+mod power_up;
 
 use common::{damaged, session, JUNK};
 use nergutsai::{list, list_call, room, Event};
-
-const UP: Event = Event::PowerUp {
-    fitted: 0,
-    range: 0,
-    filter: 0,
-    kit: 0,
-    firmware: 0,
-};
+use power_up::UP;
 
 #[test]
 fn a_listing_is_text() {

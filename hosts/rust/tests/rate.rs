@@ -1,22 +1,18 @@
 //! The rate question through the wrapper: its figures, and each refusal by name.
 
+mod power_up;
+
 use nergutsai::register::{adjustable_clock, bor, ADJUSTABLE_CLOCK, BOR, SAMPLE_RATE};
 use nergutsai::{event, rate, rate_call, Event, Figures, Record, Refusal};
+use power_up::UP;
 
 /// A board after a power-up and these writes.
 fn board(writes: &[(u32, u32)]) -> Record {
     let mut board = Record::unpowered();
-    let up = Event::PowerUp {
-        fitted: 0,
-        range: 0,
-        filter: 0,
-        kit: 0,
-        firmware: 0,
-    };
     let writes = writes
         .iter()
         .map(|&(offset, value)| Event::Write { offset, value });
-    for happening in [up].into_iter().chain(writes) {
+    for happening in [UP].into_iter().chain(writes) {
         event(&mut board, &mut [0; 8], happening).expect("it is no refused event");
     }
     board

@@ -1,5 +1,4 @@
 use borrow.Author.Needs.{needs}
-use Rattle.bridge.specs.Events.{rowEvent}
 use Rattle.bridge.proofs.events.row_event.Statement.{statement}
 use Rattle.bridge.proofs.events.row_event.Tie as tie
 
@@ -25,7 +24,6 @@ event-of-requires : tie.Need-event-of-requires
 event-of-requires c κs = search needs
 
 returns : tie.Need-returns
-unfolding rowEvent
 returns c = c .event-of .ensures
 
 pub row-event-spec : {M : Type 1} → statement M
