@@ -5,6 +5,7 @@ pub mod Sessions
 pub mod Rests
 pub mod Walk
 pub mod EveryKind
+pub mod Numbers
 pub mod Written
 pub mod Rewritten
 pub mod Joined

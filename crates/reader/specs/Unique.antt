@@ -1,4 +1,4 @@
--- Any two outcomes that a promise allows are equal. (For a record read, `Told-unique` of crate `rules` says it.)
+-- Any two outcomes that a promise allows are equal. (For a record read, `ToldInNumbers-unique` of crate `rules` says it.)
 use Prim.Native.Nat.{ℕ}
 use mathlib.Core.Path.{_≡_}
 use mathlib.Core.List.{List}

@@ -1,7 +1,8 @@
 // The session reader: the lent file bytes and the place of the next record. `item` takes the struct apart and calls the covered
 // function; `read_at` stands above, with plain parameters, and is what `next` of crate `run` calls for every record.
-ghost use Rattle.rules.specs.Told.{Told};
+ghost use Rattle.rules.specs.ToldInNumbers.{ToldInNumbers};
 ghost use Rattle.files.specs.File.{itemAt};
+ghost use Rattle.files.specs.Numbers.{itemNumbers};
 ghost use Rattle.reader.specs.Promises.{Opened};
 use files::Item;
 use session::item_at;
@@ -20,14 +21,14 @@ pub fn open<'a>(bytes: &'a [u8], place: usize) -> Reader<'a>
 
 // The record at the reader's place.
 pub fn item<'a>(r: Reader<'a>) -> Item
-    ensures { λ x. ⌜ Told (itemAt (now (r .entry .bytes)) (r .entry .place)) x ⌝ }
+    ensures { λ x. ⌜ ToldInNumbers itemNumbers (itemAt (now (r .entry .bytes)) (r .entry .place)) x ⌝ }
 {
     item_at(r.bytes, r.place)
 }
 
 // The record at a place of these bytes.
 pub fn read_at(s: &[u8], at: usize) -> Item
-    ensures { λ x. ⌜ Told (itemAt (now (s .entry)) at) x ⌝ }
+    ensures { λ x. ⌜ ToldInNumbers itemNumbers (itemAt (now (s .entry)) at) x ⌝ }
 {
     item(open(s, at))
 }

@@ -20,3 +20,4 @@ pub mod Examples
 pub mod Laws
 pub mod Own
 pub mod Told
+pub mod ToldInNumbers

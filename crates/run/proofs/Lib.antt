@@ -2,4 +2,5 @@
 pub mod Ways
 pub mod Advancing
 pub mod Leaves
+pub mod Numbers
 pub mod Unique

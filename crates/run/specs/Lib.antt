@@ -1,4 +1,5 @@
 pub mod Run
+pub mod Numbers
 pub mod Way
 pub mod Promises
 pub mod Unique

@@ -3,8 +3,10 @@
 // crate `listing`, uses `next` and `step`. The law of all these loops is in specs/Way.antt.
 ghost use Rattle.rules.specs.Record.{unpowered};
 ghost use Rattle.rules.specs.Told.{Told};
+ghost use Rattle.rules.specs.ToldInNumbers.{ToldInNumbers};
 ghost use Rattle.run.specs.Promises.{Advances, Runs};
 ghost use Rattle.run.specs.Run.{found};
+ghost use Rattle.run.specs.Numbers.{aheadNumbers};
 use board::step;
 use files::End;
 use files::Item;
@@ -44,7 +46,7 @@ pub struct Ran {
 
 // The event at the cursor, or how the file ends.
 pub fn next(s: &[u8], c: Cursor) -> Ahead
-    ensures { λ r. ⌜ Told (found (now (s .entry)) c) r ⌝ }
+    ensures { λ r. ⌜ ToldInNumbers aheadNumbers (found (now (s .entry)) c) r ⌝ }
 {
     let item = read_at(s, c.place);
     match item {

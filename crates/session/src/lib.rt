@@ -1,8 +1,9 @@
-// Session files: the record at a place of the lent file bytes. Every call takes every input, and tells what a rule says (`Told` of
-// rules/specs/Told.antt).
+// Session files: the record at a place of the lent file bytes. Every call takes every input, and tells what a rule says, in document
+// 01's numbers too (`ToldInNumbers` of rules/specs/ToldInNumbers.antt).
 ghost use mathlib.Core.Path.{_≡_};
-ghost use Rattle.rules.specs.Told.{Told};
+ghost use Rattle.rules.specs.ToldInNumbers.{ToldInNumbers};
 ghost use Rattle.files.specs.File.{itemAt};
+ghost use Rattle.files.specs.Numbers.{itemNumbers};
 use crate::common::ahead;
 use crate::common::load_stands;
 use crate::common::tick_stands;
@@ -33,7 +34,7 @@ pub(crate) fn any_at(s: &[u8], at: usize) -> Item
 // The record at a place of a session file; place 0 is the start of the file, before its version byte. A tick or a write to 18h, as most
 // records of a session are, is told by its bytes alone, in fewer steps.
 pub fn item_at(s: &[u8], at: usize) -> Item
-    ensures { λ r. ⌜ Told (itemAt (now (s .entry)) at) r ⌝ }
+    ensures { λ r. ⌜ ToldInNumbers itemNumbers (itemAt (now (s .entry)) at) r ⌝ }
 {
     let n = ahead(s, at);
     if tick_stands(s, at, n) {

@@ -1,4 +1,5 @@
-use mathlib.Core.Path.{sym, _∙_}
+use mathlib.Core.Path.{_≡_, sym, _∙_}
+use native.Mathlib.Omega.{arith}
 use borrow.Author.Needs.{needs}
 use borrow.Author.Tests.{eq-eqb, ne-eqb}
 use Rattle.rules.specs.Interrupt.{requestAfter}
@@ -25,7 +26,10 @@ returns-2 : tie.Need-returns-2
 unfolding requestAfter
 returns-2 c =
     let d = c .before .before .before in
-    record { told = rw (sym (d .before .before .before .before .initialises .ensures .told) ∙ d .before .before .before .if1 .left, eq-eqb _ _ (d .if2 .taken), c .edge .ensures, c .before .condition2 .ensures .told, c .before .before .condition .ensures .told) }
+    let first = d .before .before .before .before in
+    let g = first .before .args in
+    let unchanged : g .b .core .control .selection ≡ g .a .core .control .selection = omega (arith, d .if2 .taken) in
+    record { told = rw (sym (first .initialises .ensures .told) ∙ d .before .before .before .if1 .left, eq-eqb _ _ unchanged, c .edge .ensures, c .before .condition2 .ensures .told, c .before .before .condition .ensures .told) }
 
 returns-3 : tie.Need-returns-3
 unfolding requestAfter

@@ -42,7 +42,8 @@ use denote.Triple.Table.{entered, cited}
 use denote.Triple.Walked.{says, Stays, stay-none, walkOf, goes-none, Walks, ends-at, walked, walk-meets}
 use denote.Exit.{yes}
 use denote.Triple.Clauses.{ensured, lasts}
-use Rattle.rules.specs.Told.{Told}
+use Rattle.rules.specs.ToldInNumbers.{ToldInNumbers}
+use Rattle.files.specs.Numbers.{itemNumbers}
 use Rattle.files.specs.File.{itemAt}
 use Rattle.reader.specs.declared.Reader.{Reader}
 use Rattle.files.specs.declared.Item.{Item}
@@ -80,7 +81,7 @@ module _ {M : Type 1} (𝓤 : URA M) (H : Heap 𝓤) (A : Atoms 𝓤) (W : Given
   v = sliceVal (d .bytes .ptr) (length (d .bytes .now))
 
   abbrev Found : Item → Type 0
-  Found r = Told (itemAt (now (d .bytes)) (d .place)) r
+  Found r = ToldInNumbers itemNumbers (itemAt (now (d .bytes)) (d .place)) r
 
   abbrev Post : Val → SProp 𝓤
   Post = walkOf 𝓤 H A item.ended stayed (item.clauses 𝓤 H A mem run) .post (((κ, tt), (q, tt), tt, (d, tt), (mach ∷ [], tt)), tt)

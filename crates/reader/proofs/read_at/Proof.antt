@@ -37,8 +37,9 @@ use denote.Triple.Table.{entered, cited}
 use denote.Triple.Walked.{says, Stays, stay-none, stay-none-slice, walkOf, goes-none, goes-none-slice, Walks, ends-at, walked, walk-meets}
 use denote.Exit.{yes}
 use denote.Triple.Clauses.{ensured, lasts}
-use Rattle.files.specs.File.{itemAt}
-use Rattle.rules.specs.Told.{Told}
+use Rattle.rules.specs.ToldInNumbers.{ToldInNumbers}
+use Rattle.rules.proofs.Equal.{told-in-numbers}
+use Rattle.files.specs.Numbers.{itemNumbers}
 use Rattle.files.specs.File.{itemAt}
 use Rattle.reader.specs.Promises.{Opened}
 use Rattle.reader.specs.declared.Reader.{Reader}
@@ -85,7 +86,7 @@ module _ {M : Type 1} (𝓤 : URA M) (H : Heap 𝓤) (A : Atoms 𝓤) (W : Given
   at = (v ∷ [], (vint w64 n ∷ [], tt))
 
   abbrev Found : Item → Type 0
-  Found t = Told (itemAt (now s) n) t
+  Found t = ToldInNumbers itemNumbers (itemAt (now s) n) t
 
   -- the struct's type as a local of a body has it
   abbrev αᵉ : NamedLft
@@ -117,8 +118,8 @@ module _ {M : Type 1} (𝓤 : URA M) (H : Heap 𝓤) (A : Atoms 𝓤) (W : Given
   goes-item : (r : Reader) (u : Val) → ent 𝓤 (⋆ 𝓤 H A (‵ (B (κ, tt) .own r (u ∷ [])) ∷ (‵ (flft κ q) ⊛ ‵ ftrue) ∷ [])) (Asked 𝓤 H A mem run .pre (to-item r u))
   goes-item r u = qed W (‵ (B (κ, tt) .own r (u ∷ [])) ∷ (‵ (flft κ q) ⊛ ‵ ftrue) ∷ []) ∵ nothing ! $ move ! (1 ∷ 0 ∷ []) $ fjoin ! $ move ! (1 ∷ 0 ∷ []) $ join ! $ frame ! $ done !
 
-  item-said : (r : Reader) (t : Item) → ent 𝓤 (ensured 𝓤 H A item.ended (item.clauses 𝓤 H A mem run) (κ, tt) (r, tt) tt t) (fact 𝓤 (Told (itemAt (now (r .bytes)) (r .place)) t))
-  item-said r t = exE 𝓤 _ (λ ws. snd∗ 𝓤 (sem 𝓤 H A (lasts item.ended (κ, tt) (r, tt) ws)) (fact 𝓤 (Told (itemAt (now (r .bytes)) (r .place)) t)))
+  item-said : (r : Reader) (t : Item) → ent 𝓤 (ensured 𝓤 H A item.ended (item.clauses 𝓤 H A mem run) (κ, tt) (r, tt) tt t) (fact 𝓤 (ToldInNumbers itemNumbers (itemAt (now (r .bytes)) (r .place)) t))
+  item-said r t = exE 𝓤 _ (λ ws. snd∗ 𝓤 (sem 𝓤 H A (lasts item.ended (κ, tt) (r, tt) ws)) (fact 𝓤 (ToldInNumbers itemNumbers (itemAt (now (r .bytes)) (r .place)) t)))
 
   exits : (t : Item) (u : Val) → Found t → ent 𝓤 (⋆ 𝓤 H A (‵ (S.the-row .own t (u ∷ [])) ∷ (‵ (flft κ q) ⊛ ‵ ftrue) ∷ ‵ Own ∷ [])) (Post u)
   exits t u e =
@@ -141,12 +142,12 @@ module _ {M : Type 1} (𝓤 : URA M) (H : Heap 𝓤) (A : Atoms 𝓤) (W : Given
         use2 W (raw (Asked 𝓤 H A mem run .pre (to-item r u))) (goes-item r u) $
         calls-at ! fm (Asked 𝓤 H A mem run) known-item (to-item r u) (and-then ! (load ! (from ! (stop !)) (look ! 2 refl)) (no-more !)) (λ u′.
         use1 W (later (some (λ (t : Item). ((‵ (flft κ q) ⊛ ‵ ftrue) ⊛ ‵ (S.the-row .own t (u′ ∷ []))) ⊛ raw (ensured 𝓤 H A item.ended (item.clauses 𝓤 H A mem run) (κ, tt) (r, tt) tt t)))) (id⊢ 𝓤 _) $ await ! tt $ pick ! (λ t.
-        split ! $ move ! (1 ∷ []) $ use1 W (raw (fact 𝓤 (Told (itemAt (now (r .bytes)) (r .place)) t))) (item-said r t) $ heard ! (Told (itemAt (now (r .bytes)) (r .place)) t) (λ e′. split ! $ move ! (1 ∷ []) $
+        split ! $ move ! (1 ∷ []) $ use1 W (raw (fact 𝓤 (ToldInNumbers itemNumbers (itemAt (now (r .bytes)) (r .place)) t))) (item-said r t) $ heard ! (ToldInNumbers itemNumbers (itemAt (now (r .bytes)) (r .place)) t) (λ e′. split ! $ move ! (1 ∷ []) $
         -- [the result; the token; what s owns; _2; …; _1; …; room for _0; …]
         peeks ! S.the-row (Is S.the-row) (shows 𝓤 H A S.the-row) t (u′ ∷ []) (λ is′.
         land ! (from ! (stop !)) (init ! 9 refl (EL.lawful S.the-type S′.the-laws 𝓤 H A W tt .typed t _ is′ .0)) $
         returns ! (look ! 9 refl) $ forget ! 3 refl $ forget ! 5 refl $ forget ! 7 refl $ forget ! 9 refl $ move ! (9 ∷ 10 ∷ []) $ free1 ! $ move ! (7 ∷ 8 ∷ []) $ free1 ! $ move ! (5 ∷ 6 ∷ []) $ free1 ! $ move ! (3 ∷ 4 ∷ []) $ free1 ! $ free0 ! $
-        by ! (exits t u′ (record { told = e′ .told ∙ (ap (λ (x : RefT (List ℕ)). itemAt (now x) (r .place)) (e .bytes) ∙ ap (itemAt (now s)) (e .place)) }))))))))))))))
+        by ! (exits t u′ (told-in-numbers itemNumbers (e′ .told ∙ (ap (λ (x : RefT (List ℕ)). itemAt (now x) (r .place)) (e .bytes) ∙ ap (itemAt (now s)) (e .place)))))))))))))))))
 
 module _ {M : Type 1} (𝓤 : URA M) (H : Heap 𝓤) (A : Atoms 𝓤) (W : Given 𝓤 H A) (mem : Memory → SProp 𝓤) (run : Routine → Fun 𝓤) where
   read-walks : (C : Calls 𝓤 H) (Λ : Loops 𝓤 H) → FmC 𝓤 H (W .laws) C → Triple 𝓤 (C #reader·open) (Open 𝓤 H A mem run) → Triple 𝓤 (C #reader·item) (Asked 𝓤 H A mem run)

@@ -5,6 +5,7 @@ use Rattle.rules.specs.Record.{stateOf}
 use Rattle.run.specs.declared.Ahead.{Ahead}
 use Rattle.run.specs.declared.Progress.the-variants.{Played}
 use Rattle.run.specs.Run.{onAhead, advanced}
+use Rattle.run.specs.Numbers.{progressNumbers}
 use Rattle.run.proofs.advance.Statement.{statement}
 use Rattle.run.proofs.advance.Tie as tie
 
@@ -31,8 +32,10 @@ returns c =
     let e = sym (t .before .before .next .ensures .told) ∙ t .n .given .1 in
     let r = c .before .before .before .before .step .ensures in
     let st = stateOf (a .b) (a .memory .now) in
+    let progress = (λ i. Played (r .answer i) (t .n .given .0 .1 .0)) ∙ sym (ap (λ (x : Ahead). (onAhead st x) .progress) e) in
     record {
-      progress = (λ i. Played (r .answer i) (t .n .given .0 .1 .0)) ∙ sym (ap (λ (x : Ahead). (onAhead st x) .progress) e);
+      progress = progress;
+      in-numbers = ap progressNumbers progress;
       board = r .board ∙ sym (ap (λ (x : Ahead). (onAhead st x) .state .board) e);
       memory = r .memory ∙ sym (ap (λ (x : Ahead). (onAhead st x) .state .memory) e);
     }
@@ -44,8 +47,10 @@ returns-2 c =
     let a = t .before .before .before .before .before .args in
     let e = sym (t .before .before .next .ensures .told) ∙ t .n2 .given .1 in
     let st = stateOf (a .b) (a .memory .now) in
+    let progress = sym (ap (λ (x : Ahead). (onAhead st x) .progress) e) in
     record {
-      progress = sym (ap (λ (x : Ahead). (onAhead st x) .progress) e);
+      progress = progress;
+      in-numbers = ap progressNumbers progress;
       board = sym (ap (λ (x : Ahead). (onAhead st x) .state .board) e);
       memory = sym (ap (λ (x : Ahead). (onAhead st x) .state .memory) e);
     }

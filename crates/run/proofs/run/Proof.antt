@@ -5,6 +5,7 @@ use borrow.Author.Needs.{needs}
 use lib.ListN.{length}
 use Rattle.rules.specs.declared.Board.{Board}
 use Rattle.rules.specs.Record.{State, stateOf, start}
+use Rattle.files.specs.File.{verdict}
 use Rattle.run.specs.Way.{Way}
 use Rattle.run.proofs.Ways.{way-start, way-on, way-over, way-ends}
 use Rattle.run.proofs.Advancing.{was-played, was-ended}
@@ -76,6 +77,7 @@ returns c =
     let q = w .1 ∙ o .state in
     record {
       end = o .end;
+      in-numbers = ap verdict (o .end);
       board = r .board ∙ ap (λ (x : State). x .board) q;
       memory = r .memory ∙ ap (λ (x : State). x .memory) q;
     }

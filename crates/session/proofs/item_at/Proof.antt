@@ -4,7 +4,9 @@ use mathlib.Core.Path.{sym, _∙_}
 use native.Mathlib.Omega.{arith}
 use borrow.Author.Needs.{needs}
 use Rattle.rules.specs.declared.Event.the-variants.{Write}
+use Rattle.rules.proofs.Equal.{told-in-numbers}
 use Rattle.files.specs.declared.Item.the-variants.{Got}
+use Rattle.files.specs.Numbers.{itemNumbers}
 use Rattle.session.proofs.Commonest.{tick-stands, load-stands}
 use Rattle.session.proofs.item_at.Statement.{statement}
 use Rattle.session.proofs.item_at.Tie as tie
@@ -21,7 +23,7 @@ add-t7 c = search (needs, (c .before .tick-stands .ensures (c .if1 .taken)) .1)
 returns : tie.Need-returns
 returns c =
     let t = c .before .tick-stands .ensures (c .if1 .taken) in
-    record { told = sym (tick-stands _ _ (t .0) (t .1) (t .2) (t .3)) }
+    told-in-numbers itemNumbers (sym (tick-stands _ _ (t .0) (t .1) (t .2) (t .3)))
 
 load-stands-requires : tie.Need-load-stands-requires
 load-stands-requires c κs = c .before .before .ahead .ensures
@@ -39,13 +41,13 @@ returns-2 : tie.Need-returns-2
 returns-2 c =
     let a = c .before .before .before .before .before .before .before .args in
     let t = c .before .before .load-stands .ensures (c .before .if2 .taken) in
-    record { told = (λ i. Got (Write 24 (c .quad-at .ensures i)) (a .at + 8)) ∙ sym (load-stands _ _ (t .0) (t .1) (t .2) (t .3) (t .4)) }
+    told-in-numbers itemNumbers ((λ i. Got (Write 24 (c .quad-at .ensures i)) (a .at + 8)) ∙ sym (load-stands _ _ (t .0) (t .1) (t .2) (t .3) (t .4)))
 
 any-at-requires : tie.Need-any-at-requires
 any-at-requires c κs = tt
 
 returns-3 : tie.Need-returns-3
-returns-3 c = record { told = c .any-at .ensures }
+returns-3 c = told-in-numbers itemNumbers (c .any-at .ensures)
 
 pub item-at-spec : {M : Type 1} → statement M
 item-at-spec =
