@@ -71,7 +71,7 @@ module _ (q : Cut) where
         let z : length (q .recording) % q .channels ≡ 0 = ap (λ (n : ℕ). n % q .channels) (h .whole) ∙ mul-mod-left g (q .channels) in
         rw (le-leb 1 (q .channels) (h .some), le-leb (q .channels) 20 (h .most), eq-eqb _ 0 z) refl
 
-    grouped-count : count ≡ g
+    pub grouped-count : count ≡ g
     grouped-count = ap (λ (n : ℕ). n / q .channels) (h .whole) ∙ mul-div-cancel g (h .some)
 
   pub choice-to : isChoice q ≡ true → GoodChoice q count

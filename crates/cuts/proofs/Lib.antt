@@ -9,5 +9,8 @@ pub mod Ticks
 pub mod Order
 pub mod Plays
 pub mod Shipped
+pub mod PlaysAtSize
 pub mod Examples
 pub mod Instances
+pub mod InstancesAtSize
+pub mod InstancesOfLaws

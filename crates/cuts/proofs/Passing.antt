@@ -1,5 +1,6 @@
 -- One event after another on a board that stands: a write or a tick that is not refused, by what the rules make of it.
---   Done s e p    the event e is done in the state s, and p is its play
+--   Done s e p           the event e is done in the state s, and p is its play
+--   BoardWith c z vs s   the board s stands, with the core c, the size z and the values vs
 use Prim.Native.Nat.{ℕ, zero, suc, _≤_, zero-le}
 use mathlib.Core.Path.{_≡_, refl, sym, ap, _∙_}
 use mathlib.Core.Logic.{_≢_}
@@ -9,6 +10,8 @@ use native.Mathlib.Nat.{le-of-eq, le-trans}
 use Rattle.rules.specs.declared.Event.{Event}
 use Rattle.rules.specs.declared.Event.the-variants.{Write as write, Signal as signal}
 use Rattle.rules.specs.declared.Signal.the-variants.{Tick as tick}
+use Rattle.rules.specs.declared.Size.{Size}
+use Rattle.rules.specs.declared.Core.{Core}
 use Rattle.rules.specs.Record.{State, stored}
 use Rattle.rules.specs.Clocks.{Play, fateNumber}
 use Rattle.rules.specs.Size.{sizeAfter}
@@ -59,6 +62,35 @@ write-open s o v st a m m′ c = (refusal-exactly s (write o v) 0) .1 (written s
 
 pub tick-open : (s : State) → Stands s → refusal s (signal tick) ≡ 0
 tick-open s st = (refusal-exactly s (signal tick) 0) .1 (heard aTick st)
+
+-- ---- What is known of a board
+
+pub record BoardWith (c : Core) (z : Size) (vs : List ℕ) (s : State) : Type 0 where
+  pub stands : Stands s
+  pub core : s .board .core ≡ c
+  pub size : s .board .size ≡ z
+  pub values : stored s ≡ vs
+
+module _ {c : Core} {z : Size} {vs : List ℕ} {s : State} (b : BoardWith c z vs s) where
+  -- and so of the board after an event
+  pub board-after : {e : Event} {p : Play} → Done s e p → BoardWith (p .core) (sizeAfter z e) (onList (p .op) vs) ((step s e) .state)
+  board-after {e} {p} d =
+      record {
+        stands = d .stands;
+        core = d .core;
+        size = d .size ∙ ap (λ (y : Size). sizeAfter y e) (b .size);
+        values = d .values ∙ ap (onList (p .op)) (b .values);
+      }
+
+  pub write-accepted : (o v : ℕ) → Offset o → o ≢ 0x10 → o ≢ 0x14 → c .calibration .running ≡ false → refusal s (write o v) ≡ 0
+  write-accepted o v a m m′ still = write-open s o v (b .stands) a m m′ (ap (λ (y : Core). y .calibration .running) (b .core) ∙ still)
+
+  -- a write whose play p is told of the core, whatever the values and the size are
+  pub write-done : (o v : ℕ) (p : Core → Play) → Offset o → o ≢ 0x10 → o ≢ 0x14 → c .calibration .running ≡ false
+      → played s (write o v) ≡ p (s .board .core)
+      → Done s (write o v) (p c)
+  write-done o v p a m m′ still h =
+      event-done s (write o v) (p c) (b .stands) tt (write-accepted o v a m m′ still) (h ∙ ap p (b .core))
 
 -- ---- One after another
 

@@ -1,4 +1,5 @@
 -- Channel k of a group plays on output k, tick by tick (specs/Plays, Channel-plays).
+--   PlaysOut q v s es   what sessions on the board s play, and that nothing is refused or lost
 use Prim.Native.Nat.{ℕ, zero, suc, _+_, _*_, _-_, _%_, _≤_, _<_}
 use mathlib.Core.Path.{_≡_, refl, sym, ap, subst, _∙_}
 use mathlib.Core.Logic.{_≢_, _⊎_, inl, inr, ⊎-elim}
@@ -13,7 +14,7 @@ use Rattle.rules.specs.declared.Event.{Event}
 use Rattle.rules.specs.declared.Event.the-variants.{Signal as signal}
 use Rattle.rules.specs.declared.Signal.the-variants.{Tick as tick}
 use Rattle.rules.specs.Bits.{bit, activeFrom, headOr}
-use Rattle.rules.specs.Record.{State, stored, levelSpan}
+use Rattle.rules.specs.Record.{State, levelSpan}
 use Rattle.rules.specs.Clocks.{targets}
 use Rattle.rules.specs.Step.{step}
 use Rattle.rules.specs.Session.{outcomes, after}
@@ -25,8 +26,8 @@ use Rattle.cuts.specs.Plays.{Equipped, Ordered, powered, Fine, Playable,
 use Rattle.cuts.proofs.Lists.{eof-told, eof-data}
 use Rattle.cuts.proofs.ChosenNumbers.{chosen-is, chosen-channels, numbers-long, numbers-at}
 use Rattle.cuts.proofs.Passing.{fine-append, ticks-fine}
-use Rattle.cuts.proofs.Loading.{cut-loaded, cut-stored}
-use Rattle.cuts.proofs.TwoWrites.{Playing, BothDone, two-done}
+use Rattle.cuts.proofs.Loading.{initial-takes, initial-twenty, cut-powered}
+use Rattle.cuts.proofs.TwoWrites.{Playing, board-playing, ready-to-play, two-done}
 use Rattle.cuts.proofs.Ticks.{tick-moves, tick-playing, tick-given, play-targets, sequential-targets}
 use Rattle.cuts.proofs.Order.{next-from}
 
@@ -255,25 +256,36 @@ plays-from q o v s p = record { simultaneous = λ m. together q o v s m p; seque
 pub same-boards : (q : Cut) (v : ℕ) (at at′ : ℕ → State) → ((n : ℕ) → at n ≡ at′ n) → OnItsOutput q v at → OnItsOutput q v at′
 same-boards q v at at′ e h = subst (OnItsOutput q v) (λ i n. e n i) h
 
-module _ (q : Cut) (s : State) (x : Settings) (v w : ℕ) (two : List Event) (o : Ordered q) (h : Equipped q s x) (p : Playable v w)
-    (e : EitherOrder v w two) where
-  -- the board when the cut is loaded, and the two writes on it
-  abbrev loaded : State
-  loaded = after (powered s x) (events q)
+-- the events es n on the board s, for each number n of ticks: nothing is refused or lost, and each channel plays on its output
+pub record PlaysOut (q : Cut) (v : ℕ) (s : State) (es : ℕ → List Event) : Type 0 where
+  pub fine : (n : ℕ) → Fine (outcomes s (es n))
+  pub plays : OnItsOutput q v (λ n. after s (es n))
 
-  both : BothDone (q .mask) v (eofOnLast (numbers q)) loaded two
-  both = two-done x (q .mask) v w p _ loaded (cut-loaded q s x o h) two e
+-- two parts of a session that leave the board ready, and the ticks behind them
+pub parts-play : (q : Cut) (o : Ordered q) (v : ℕ) (s : State) (es fs : List Event) → Fine (outcomes s es) → Fine (outcomes (after s es) fs)
+    → Playing (q .mask) v (eofOnLast (numbers q)) 0 (after (after s es) fs)
+    → PlaysOut q v s (λ n. es ++ (fs ++ manyTicks n))
+parts-play q o v s es fs f g p =
+    record {
+      fine = λ n. fine-append s es (fs ++ manyTicks n) f (fine-append (after s es) fs (manyTicks n) g (ticks-fine n _ (p .stands)));
+      plays =
+          same-boards q v _ _
+          (λ n. sym (after-append s es (fs ++ manyTicks n) ∙ after-append (after s es) fs (manyTicks n)))
+          (plays-from q o v (after (after s es) fs) p);
+    }
 
-  pub plays-fine : (n : ℕ) → Fine (outcomes (powered s x) (events q ++ (two ++ manyTicks n)))
-  plays-fine n =
-      fine-append (powered s x) (events q) (two ++ manyTicks n) ((cut-stored q s x o h) .fine)
-      (fine-append loaded two (manyTicks n) (both .fine) (ticks-fine n (after loaded two) (both .playing .stands)))
-
-  pub plays-on : OnItsOutput q v (λ n. after (powered s x) (events q ++ (two ++ manyTicks n)))
-  plays-on =
-      same-boards q v _ _
-      (λ n. sym (after-append (powered s x) (events q) (two ++ manyTicks n) ∙ after-append loaded two (manyTicks n)))
-      (plays-from q o v (after loaded two) (both .playing))
+-- the cut, then the two writes
+pub cut-then-writes : (q : Cut) (s : State) (x : Settings) (v w : ℕ) (two : List Event)
+    → Ordered q → Equipped q s x → Playable v w → EitherOrder v w two
+    → PlaysOut q v (powered s x) (λ n. events q ++ (two ++ manyTicks n))
+cut-then-writes q s x v w two o h p e =
+    let still = (initial-takes x) .uncalibrating in
+    let d = cut-powered q s x o h in
+    let b = two-done v w p (d .end) still two e in
+    let r = b .written in
+    let twenty = ap length (r .levels) ∙ initial-twenty x in
+    parts-play q o v (powered s x) (events q) two (d .fine) (b .fine)
+    (board-playing (b .end) (ready-to-play v w p r still (q .mask) (b .core .outputs) (r .mask) (r .cursor refl) twenty))
 
 pub channel-plays : Channel-plays
-channel-plays = plays-on
+channel-plays q s x v w two o h p e = (cut-then-writes q s x v w two o h p e) .plays

@@ -22,12 +22,12 @@ use Rattle.files.proofs.Written.{file-read}
 use Rattle.files.proofs.WriteRead.{file-stands, file-reread}
 use Rattle.cuts.specs.Cut.{Cut, numbers, eofOnLast, events, cutRefusal, cutOutput}
 use Rattle.cuts.specs.Laws.{Sixteen, Cut-read}
-use Rattle.cuts.specs.Plays.{Equipped, Ordered, Fine, next as then, Playable, EitherOrder, controlFirst, bufferFirst, manyTicks, shipped, cutBytes, PlaysRead, Shipped-plays}
+use Rattle.cuts.specs.Plays.{Ordered, powered, Fine, next as then, EitherOrder, controlFirst, bufferFirst, manyTicks, cutBytes, PlaysRead, Shipped-plays}
 use Rattle.cuts.proofs.ChosenNumbers.{mask-small, numbers-small}
 use Rattle.cuts.proofs.Given.{GoodCut, good-cut, cut-ends, cut-leaves}
 use Rattle.cuts.proofs.Loading.{marked-small}
 use Rattle.cuts.proofs.Passing.{no-loss}
-use Rattle.cuts.proofs.Plays.{same-boards, plays-fine, channel-plays}
+use Rattle.cuts.proofs.Plays.{same-boards, PlaysOut, cut-then-writes}
 
 -- ---- Fields that fit
 
@@ -38,15 +38,15 @@ loads-fit : (ws : List ℕ) → ((i : ℕ) → getD ws i 0 < valueSpan) → AllF
 loads-fit [] f = none
 loads-fit (w ∷ ws) f = write-fits 0x18 w _ (omega arith) (omega (arith, f 0)) (loads-fit ws (λ i. f (suc i)))
 
-both-fit : (es fs : List Event) → AllFit es → AllFit fs → AllFit (es ++ fs)
+pub both-fit : (es fs : List Event) → AllFit es → AllFit fs → AllFit (es ++ fs)
 both-fit [] fs none h = h
 both-fit (e ∷ es) fs (next f g) h = next f (both-fit es fs g h)
 
-ticks-fit : (n : ℕ) → AllFit (manyTicks n)
+pub ticks-fit : (n : ℕ) → AllFit (manyTicks n)
 ticks-fit zero = none
 ticks-fit (suc n) = next tt (ticks-fit n)
 
-two-fit : (v w : ℕ) (two : List Event) → v < 2 ^ 32 → w < 2 ^ 32 → EitherOrder v w two → AllFit two
+pub two-fit : (v w : ℕ) (two : List Event) → v < 2 ^ 32 → w < 2 ^ 32 → EitherOrder v w two → AllFit two
 two-fit v w _ a b controlFirst = write-fits 0x00 v _ (omega arith) a (write-fits 0x0C w [] (omega arith) b none)
 two-fit v w _ a b bufferFirst = write-fits 0x0C w _ (omega arith) b (write-fits 0x00 v [] (omega arith) a none)
 
@@ -56,13 +56,13 @@ power-up-fits s x z =
     (omega (arith, r .fitted), omega (arith, r .range), omega (arith, r .filter), omega (arith, r .kit), omega (arith, r .firmware))
 
 module _ (q : Cut) (sixteen : Sixteen (q .recording)) (n place : ℕ) (g : GoodCut q n place) where
-  cut-fits : AllFit (events q)
+  pub cut-fits : AllFit (events q)
   unfolding events
   cut-fits =
       write-fits 0x04 (q .mask) _ (omega arith) (omega (arith, mask-small q (g .count) (g .grouped) (g .choice)))
       (loads-fit (eofOnLast (numbers q)) (marked-small (numbers q) (numbers-small q sixteen)))
 
-  ordered : Ordered q
+  pub ordered : Ordered q
   ordered = record { count = g .count; grouped = g .grouped; choice = g .choice; sixteen = sixteen }
 
 pub cut-read : Cut-read
@@ -74,13 +74,13 @@ cut-read q out place sixteen z =
 
 -- ---- The file that is shipped
 
-records-append : (es fs : List Event) → recordsOf (es ++ fs) ≡ recordsOf es ++ recordsOf fs
+pub records-append : (es fs : List Event) → recordsOf (es ++ fs) ≡ recordsOf es ++ recordsOf fs
 unfolding recordsOf
 records-append [] fs = refl
 records-append (e ∷ es) fs = ap (λ (r : List ℕ). bytesOf e ++ r) (records-append es fs) ∙ sym (append-assoc (bytesOf e) (recordsOf es) (recordsOf fs))
 
 -- the cutter's bytes from its second on are the records of its events
-cut-records : (q : Cut) (out : List ℕ) (place : ℕ) → cutRefusal q (length out) place ≡ 0 → cutBytes q out place ≡ recordsOf (events q)
+pub cut-records : (q : Cut) (out : List ℕ) (place : ℕ) → cutRefusal q (length out) place ≡ 0 → cutBytes q out place ≡ recordsOf (events q)
 unfolding fileOf
 cut-records q out place z =
     let g = good-cut q (length out) place z in
@@ -92,48 +92,38 @@ cut-records q out place z =
     ∙ ap (λ (x : List ℕ). drop 1 (slice place end x)) (cut-leaves q out place z)
     ∙ ap (drop 1) (file-stands (events q) out place (g .room))
 
-module _ (q : Cut) (x : Settings) (v w : ℕ) (two : List Event) (m out : List ℕ) (place : ℕ) (sixteen : Sixteen (q .recording))
-    (z : cutRefusal q (length out) place ≡ 0) (h : Equipped q (start m) x) (p : Playable v w) (v-fits : v < 2 ^ 32) (w-fits : w < 2 ^ 32)
-    (e : EitherOrder v w two) where
-  g : GoodCut q (length out) place
-  g = good-cut q (length out) place z
+-- Files of a power-up and of the events es n behind it: what these play is what is read and played.
+module _ (q : Cut) (x : Settings) (v : ℕ) (m : List ℕ) (records : ℕ → List ℕ) (es : ℕ → List Event) (a : refusal (start m) (powerUp x) ≡ 0)
+    (same : (n : ℕ) → records n ≡ recordsOf (es n)) (fit : (n : ℕ) → AllFit (es n)) (h : PlaysOut q v (powered (start m) x) es) where
+  abbrev file : ℕ → List ℕ
+  file n = 1 ∷ bytesOf (powerUp x) ++ records n
 
-  abbrev all : ℕ → List Event
-  all n = powerUp x ∷ events q ++ (two ++ manyTicks n)
-
-  whole-file : (n : ℕ) → shipped x (cutBytes q out place) two n ≡ fileOf (all n)
+  file-session : (n : ℕ) → session (file n) ≡ record { events = powerUp x ∷ es n; end = File }
   unfolding fileOf recordsOf
-  whole-file n =
-      (λ i. 1 ∷ bytesOf (powerUp x) ++ (cut-records q out place z i ++ recordsOf (two ++ manyTicks n)))
-      ∙ (λ i. 1 ∷ bytesOf (powerUp x) ++ sym (records-append (events q) (two ++ manyTicks n)) i)
-
-  file-session : (n : ℕ) → session (shipped x (cutBytes q out place) two n) ≡ record { events = all n; end = File }
   file-session n =
-      ap session (whole-file n)
-      ∙ file-read (all n)
-      (next (power-up-fits (start m) x (h .accepted))
-      (both-fit (events q) (two ++ manyTicks n) (cut-fits q sixteen _ _ g) (both-fit two (manyTicks n) (two-fit v w two v-fits w-fits e) (ticks-fit n))))
-
-  o : Ordered q
-  o = ordered q sixteen _ _ g
+      ap (λ (r : List ℕ). session (1 ∷ bytesOf (powerUp x) ++ r)) (same n)
+      ∙ file-read (powerUp x ∷ es n) (next (power-up-fits (start m) x a) (fit n))
 
   -- what holds of the events holds of the file
-  read-as : (P : List Event → Type 0) (n : ℕ) → P (all n) → P ((session (shipped x (cutBytes q out place) two n)) .events)
+  read-as : (P : List Event → Type 0) (n : ℕ) → P (powerUp x ∷ es n) → P ((session (file n)) .events)
   read-as P n h = subst (λ (y : Session). P (y .events)) (sym (file-session n)) h
 
-  file-plays : PlaysRead q v m (shipped x (cutBytes q out place) two)
+  pub file-plays : PlaysRead q v m file
   unfolding after outcomes
   file-plays =
       record {
         whole = λ n. ap (λ (y : Session). y .end) (file-session n);
         fine = λ n.
             read-as (λ (es : List Event). Fine (outcomes (start m) es)) n
-            (then (refusal-answered (start m) (powerUp x) ∙ h .accepted) (no-loss (fate-none (start m) (powerUp x) (λ z. z)))
-            (plays-fine q (start m) x v w two o h p e n));
-        plays =
-            same-boards q v _ _ (λ n. sym (ap (λ (y : Session). after (start m) (y .events)) (file-session n)))
-            (channel-plays q (start m) x v w two o h p e);
+            (then (refusal-answered (start m) (powerUp x) ∙ a) (no-loss (fate-none (start m) (powerUp x) (λ z. z))) (h .fine n));
+        plays = same-boards q v _ _ (λ n. sym (ap (λ (y : Session). after (start m) (y .events)) (file-session n))) (h .plays);
       }
 
 pub shipped-plays : Shipped-plays
-shipped-plays = file-plays
+shipped-plays q x v w two m out place sixteen z h p v-fits w-fits e =
+    let g = good-cut q (length out) place z in
+    let after-cut : ℕ → List Event = λ n. two ++ manyTicks n in
+    file-plays q x v m (λ n. cutBytes q out place ++ recordsOf (after-cut n)) (λ n. events q ++ after-cut n) (h .accepted)
+    (λ n. ap (λ (r : List ℕ). r ++ recordsOf (after-cut n)) (cut-records q out place z) ∙ sym (records-append (events q) (after-cut n)))
+    (λ n. both-fit (events q) (after-cut n) (cut-fits q sixteen _ _ g) (both-fit two (manyTicks n) (two-fit v w two v-fits w-fits e) (ticks-fit n)))
+    (cut-then-writes q (start m) x v w two (ordered q sixteen _ _ g) h p e)

@@ -1,21 +1,28 @@
--- The two writes after the cut: the board is ready to play, whichever comes first.
+-- The two writes, whichever comes first, and when the board is ready to play.
 --   ReadyToPlay mask v n c   of a core: its mask and mode, its clock, its cursor n
 --   Playing mask v vs n s    of a board: that, and the values vs are stored
-use Prim.Native.Nat.{ℕ}
+--   BothWritten v w c d      of the core d after the two writes, by the core c before them
+use Prim.Native.Nat.{ℕ, _%_}
 use mathlib.Core.Path.{_≡_, refl, sym, ap, subst, _∙_}
 use mathlib.Core.Bool.{Bool, true, false, not, _&&_, cond, and-false}
 use mathlib.Core.List.{List, [], _∷_}
 use native.Mathlib.Omega.{arith}
 use lib.ListN.{length}
-use Rattle.rules.specs.declared.Settings.{Settings}
 use Rattle.rules.specs.declared.Event.{Event}
 use Rattle.rules.specs.declared.Event.the-variants.{Write as write}
+use Rattle.rules.specs.declared.Size.{Size}
+use Rattle.rules.specs.declared.Control.{Control}
+use Rattle.rules.specs.declared.Mode.{Mode}
+use Rattle.rules.specs.declared.Calibration.{Calibration}
+use Rattle.rules.specs.declared.Outputs.{Outputs}
 use Rattle.rules.specs.declared.Core.{Core}
 use Rattle.rules.specs.Bits.{bit}
 use Rattle.rules.specs.Record.{State, stored}
+use Rattle.rules.specs.Parts.{withOutputs}
 use Rattle.rules.specs.Clocks.{Play, only, clockReady, clockAccepted, onOutside}
-use Rattle.rules.specs.Writes.{initial, cursorOf, calibrationOf, writeControl, bufferOf, tried, writeBuffer, onWrite}
+use Rattle.rules.specs.Writes.{controlOf, cursorOf, calibrationOf, writeControl, modeOf, bufferOf, tried, writeBuffer, onWrite}
 use Rattle.rules.specs.Play.{play}
+use Rattle.rules.specs.Size.{sizeAfter, codeOf}
 use Rattle.rules.specs.Step.{played, step}
 use Rattle.rules.specs.Session.{outcomes, after}
 use Rattle.rules.specs.Laws.Soundness.{Stands}
@@ -23,8 +30,7 @@ use Rattle.rules.specs.Laws.Refusals.{Offset}
 use Rattle.rules.proofs.Choice.{either, cond-false}
 use Rattle.laws.proofs.Places.{onList}
 use Rattle.cuts.specs.Plays.{Fine, none, next, Playable, EitherOrder, controlFirst, bufferFirst}
-use Rattle.cuts.proofs.Passing.{Done, event-done, write-open, no-loss}
-use Rattle.cuts.proofs.Loading.{masked, Loading}
+use Rattle.cuts.proofs.Passing.{Done, no-loss, BoardWith, board-after, write-done}
 
 -- ---- What a tick looks at
 
@@ -71,98 +77,132 @@ buffer-played s w g z =
     cond-false _ _ _ z
     ∙ either (λ (p : Play). p ≡ only (bufferOf w (s .board .core))) (bit 7 w) (no-software-clock (bufferOf w (s .board .core)) (stored s) g) refl
 
--- ---- Both
-
 -- the board with the values vs, as the ticks find it
 pub record Playing (mask v : ℕ) (vs : List ℕ) (cursor : ℕ) (s : State) : Type 0 where
   pub stands : Stands s
   pub ready : ReadyToPlay mask v cursor (s .board .core)
   pub values : stored s ≡ vs
 
--- two writes on the board s: they are accepted, and leave such a board
-pub record BothDone (mask v : ℕ) (vs : List ℕ) (s : State) (two : List Event) : Type 0 where
+pub board-playing : {mask v cursor : ℕ} {c : Core} {z : Size} {vs : List ℕ} {s : State} → BoardWith c z vs s → ReadyToPlay mask v cursor c
+    → Playing mask v vs cursor s
+board-playing {mask} {v} {cursor} b r =
+    record { stands = b .stands; ready = subst (ReadyToPlay mask v cursor) (sym (b .core)) r; values = b .values }
+
+-- ---- Both
+
+pub record BothWritten (v w : ℕ) (c d : Core) : Type 0 where
+  pub options : d .options ≡ c .options
+  pub control : d .control ≡ controlOf v
+  pub mode : d .mode ≡ modeOf w
+  pub calibration : d .calibration ≡ c .calibration
+  pub mask : d .outputs .mask ≡ c .outputs .mask
+  pub cursor : c .outputs .cursor ≡ 0 → d .outputs .cursor ≡ 0
+  pub levels : d .outputs .levels ≡ c .outputs .levels
+
+-- two writes on the board s, with the core c, the fitted code d and the values vs: they are accepted, and w names the size
+pub record BothDone (v w : ℕ) (c : Core) (d : ℕ) (vs : List ℕ) (s : State) (two : List Event) : Type 0 where
   pub fine : Fine (outcomes s two)
-  pub playing : Playing mask v vs 0 (after s two)
+  pub core : Core
+  pub written : BothWritten v w c core
+  pub end : BoardWith core (record { fitted = d; code = w % 16 }) vs (after s two)
 
 -- a cursor that is 0 is 0 in either mode
 cursor-zero : (was is : Bool) → cursorOf was is 0 ≡ 0
 unfolding cursorOf
 cursor-zero was is = either (λ (n : ℕ). n ≡ 0) (cond was is (not is)) refl refl
 
-module _ (x : Settings) (mask v w : ℕ) (p : Playable v w) where
-  still : (calibrationOf v ((masked x mask) .calibration)) .running ≡ false
-  unfolding calibrationOf initial
-  still = rw (p .noCalibration) refl
+module _ (v w : ℕ) (p : Playable v w) where
+  module _ {c d : Core} (h : BothWritten v w c d) (still : c .calibration .running ≡ false) where
+    pub still-after : d .calibration .running ≡ false
+    still-after = ap (λ (y : Calibration). y .running) (h .calibration) ∙ still
 
-  control-then-buffer : ReadyToPlay mask v 0 (bufferOf w (controlled v (masked x mask)))
-  unfolding bufferOf writeControl initial
-  control-then-buffer =
-      record {
-        bursts = p .noBursts;
-        binary = refl;
-        simultaneous = refl;
-        enabled = p .enabled;
-        generator = p .generator;
-        uncircled = p .uncircled;
-        uncalibrating = still;
-        mask-is = refl;
-        cursor-is = either (λ (n : ℕ). n ≡ 0) (bit 11 w) refl (cursor-zero _ _);
-        twenty = refl;
-      }
+    pub uncircled-after : d .mode .circular ≡ false
+    uncircled-after = let e : d .mode .circular ≡ bit 8 w = ap (λ (y : Mode). y .circular) (h .mode) in e ∙ p .uncircled
 
-  buffer-then-control : ReadyToPlay mask v 0 (controlled v (bufferOf w (masked x mask)))
-  unfolding bufferOf writeControl initial
-  buffer-then-control =
-      record {
-        bursts = p .noBursts;
-        binary = refl;
-        simultaneous = refl;
-        enabled = p .enabled;
-        generator = p .generator;
-        uncircled = p .uncircled;
-        uncalibrating = still;
-        mask-is = refl;
-        cursor-is = either (λ (n : ℕ). cursorOf false (bit 7 v) n ≡ 0) (bit 11 w) (cursor-zero false _) (cursor-zero false _);
-        twenty = refl;
-      }
+    -- ready, if the outputs have the mask, and the cursor is 0
+    pub ready-to-play : (mask : ℕ) (o : Outputs) → o .mask ≡ mask → o .cursor ≡ 0 → length (o .levels) ≡ 20 → ReadyToPlay mask v 0 (withOutputs o d)
+    ready-to-play mask o m n l =
+        let bursts : d .control .bursts ≡ bit 0 v = ap (λ (y : Control). y .bursts) (h .control) in
+        let enabled : d .mode .enabled ≡ bit 5 w = ap (λ (y : Mode). y .enabled) (h .mode) in
+        let external : d .mode .external ≡ bit 4 w = ap (λ (y : Mode). y .external) (h .mode) in
+        record {
+          bursts = bursts ∙ p .noBursts;
+          binary = ap (λ (y : Control). y .binary) (h .control);
+          simultaneous = ap (λ (y : Control). y .simultaneous) (h .control);
+          enabled = enabled ∙ p .enabled;
+          generator = external ∙ p .generator;
+          uncircled = uncircled-after;
+          uncalibrating = still-after;
+          mask-is = m;
+          cursor-is = n;
+          twenty = l;
+        }
 
-  -- a write that changes the core alone
-  module _ (s : State) (st : Stands s) (c : Core) (e : s .board .core ≡ c) (z : c .calibration .running ≡ false) where
-    unhindered : s .board .core .calibration .running ≡ false
-    unhindered = ap (λ (y : Core). y .calibration .running) e ∙ z
+  module _ (c : Core) where
+    uncalibrated : calibrationOf v (c .calibration) ≡ c .calibration
+    unfolding calibrationOf
+    uncalibrated = cond-false (bit 13 v) _ _ (p .noCalibration)
 
+    control-then-buffer : BothWritten v w c (bufferOf w (controlled v c))
+    unfolding bufferOf writeControl
+    control-then-buffer =
+        record {
+          options = refl;
+          control = refl;
+          mode = refl;
+          calibration = uncalibrated;
+          mask = refl;
+          cursor = λ e. cond-false (bit 11 w) _ _ (p .unemptied) ∙ ap (cursorOf _ (bit 7 v)) e ∙ cursor-zero _ (bit 7 v);
+          levels = refl;
+        }
+
+    buffer-then-control : BothWritten v w c (controlled v (bufferOf w c))
+    unfolding bufferOf writeControl
+    buffer-then-control =
+        record {
+          options = refl;
+          control = refl;
+          mode = refl;
+          calibration = uncalibrated;
+          mask = refl;
+          cursor = λ e. ap (cursorOf _ (bit 7 v)) (cond-false (bit 11 w) _ _ (p .unemptied) ∙ e) ∙ cursor-zero _ (bit 7 v);
+          levels = refl;
+        }
+
+  -- each write by itself
+  module _ {c : Core} {z : Size} {vs : List ℕ} {s : State} (b : BoardWith c z vs s) (still : c .calibration .running ≡ false) where
     control-done : Done s (write 0x00 v) (only (controlled v c))
     control-done =
-        event-done s (write 0x00 v) _ st tt (write-open s 0x00 v st offset-00 (λ e. omega (arith, e)) (λ e. omega (arith, e)) unhindered)
-        (control-played s v (p .noInitialise) ∙ ap (λ (y : Core). only (controlled v y)) e)
+        write-done b 0x00 v (λ (y : Core). only (controlled v y)) offset-00 (λ e. omega (arith, e)) (λ e. omega (arith, e)) still
+        (control-played s v (p .noInitialise))
 
     buffer-done : Done s (write 0x0C w) (only (bufferOf w c))
     buffer-done =
-        event-done s (write 0x0C w) _ st tt (write-open s 0x0C w st offset-0C (λ e. omega (arith, e)) (λ e. omega (arith, e)) unhindered)
-        (buffer-played s w (p .generator) (p .unemptied) ∙ ap (λ (y : Core). only (bufferOf w y)) e)
+        write-done b 0x0C w (λ (y : Core). only (bufferOf w y)) offset-0C (λ e. omega (arith, e)) (λ e. omega (arith, e)) still
+        (buffer-played s w (p .generator) (p .unemptied))
 
-  -- two events that change the core alone
-  both-done : {vs : List ℕ} {s : State} {e f : Event} {c d : Core} → stored s ≡ vs
-      → Done s e (only c) → Done ((step s e) .state) f (only d) → ReadyToPlay mask v 0 d
-      → BothDone mask v vs s (e ∷ f ∷ [])
+  -- two events that change the core and the size alone
+  both-done : {c : Core} {z : Size} {vs : List ℕ} {s : State} {e f : Event} {d d′ : Core} → BoardWith c z vs s
+      → (a : Done s e (only d)) → Done ((step s e) .state) f (only d′) → BothWritten v w c d′
+      → sizeAfter (sizeAfter z e) f ≡ record { fitted = z .fitted; code = w % 16 }
+      → BothDone v w c (z .fitted) vs s (e ∷ f ∷ [])
   unfolding after outcomes onList
-  both-done h a b r =
+  both-done {vs = vs} {s = s} {e = e} {f = f} {d′ = d′} b a a′ h size =
       record {
-        fine = next (a .refusal) (no-loss (a .fate)) (next (b .refusal) (no-loss (b .fate)) none);
-        playing = record {
-          stands = b .stands;
-          ready = subst (ReadyToPlay mask v 0) (sym (b .core)) r;
-          values = b .values ∙ a .values ∙ h;
-        };
+        fine = next (a .refusal) (no-loss (a .fate)) (next (a′ .refusal) (no-loss (a′ .fate)) none);
+        core = d′;
+        written = h;
+        end = subst (λ (y : Size). BoardWith d′ y vs (after s (e ∷ f ∷ []))) size (board-after (board-after b a) a′);
       }
 
   -- in either order
-  module _ (vs : List ℕ) (s : State) (l : Loading x mask vs s) where
-    pub two-done : (two : List Event) → EitherOrder v w two → BothDone mask v vs s two
-    unfolding initial bufferOf writeControl
-    two-done _ controlFirst =
-        let a = control-done s (l .stands) _ (l .core) refl in
-        both-done (l .values) a (buffer-done _ (a .stands) _ (a .core) still) control-then-buffer
-    two-done _ bufferFirst =
-        let a = buffer-done s (l .stands) _ (l .core) refl in
-        both-done (l .values) a (control-done _ (a .stands) _ (a .core) refl) buffer-then-control
+  pub two-done : {c : Core} {z : Size} {vs : List ℕ} {s : State} → BoardWith c z vs s → c .calibration .running ≡ false
+      → (two : List Event) → EitherOrder v w two → BothDone v w c (z .fitted) vs s two
+  unfolding bufferOf writeControl sizeAfter codeOf
+  two-done {c} b still _ controlFirst =
+      let a = control-done b still in
+      both-done b a (buffer-done (board-after b a) (ap (λ (y : Calibration). y .running) (uncalibrated c) ∙ still)) (control-then-buffer c) refl
+  two-done {c} {z} b still _ bufferFirst =
+      let a = buffer-done b still in
+      both-done b a (control-done (board-after b a) still) (buffer-then-control c)
+      (ap (λ (n : ℕ). record { fitted = z .fitted; code = n }) (cond-false (bit 15 v) _ _ (p .noInitialise)))

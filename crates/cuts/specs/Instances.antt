@@ -1,17 +1,22 @@
--- Cuts that meet the premises of the theorems: several groups, a choice with gaps, on the smallest kit and on the largest.
-use Prim.Native.Nat.{ℕ}
+-- Cuts that meet the premises of the theorems of specs/Plays: several groups, a choice with gaps, on the smallest kit and on the largest.
+-- What the theorems then say of them, clause by clause.
+use Prim.Native.Nat.{ℕ, _≤_}
 use mathlib.Core.Path.{_≡_}
-use mathlib.Core.List.{List, [], _∷_}
-use lib.ListN.{replicate}
+use mathlib.Core.Logic.{_≢_}
+use mathlib.Core.List.{List, [], _∷_, _++_, map}
+use lib.ListN.{length, getD, replicate}
 use Rattle.rules.specs.declared.Settings.{Settings}
 use Rattle.rules.specs.declared.Event.{Event}
 use Rattle.rules.specs.declared.Event.the-variants.{Write as write}
-use Rattle.rules.specs.Record.{State, start}
-use Rattle.rules.specs.Session.{after}
+use Rattle.rules.specs.declared.Board.{Board}
+use Rattle.rules.specs.Record.{State, stateOf, stored, start}
+use Rattle.rules.specs.Step.{Outcome}
+use Rattle.rules.specs.Session.{outcomes, after}
 use Rattle.laws.specs.Moved.{levelAt}
+use Rattle.files.specs.declared.End.the-variants.{File}
 use Rattle.files.specs.File.{session}
 use Rattle.cuts.specs.Cut.{Cut, events}
-use Rattle.cuts.specs.Plays.{Ordered, Equipped, StoredInOrder, powered, shipped, cutBytes, OnItsOutput}
+use Rattle.cuts.specs.Plays.{Ordered, Equipped, StoredInOrder, powered, manyTicks, shipped, cutBytes, OnItsOutput}
 use Rattle.cuts.specs.Examples.{cutOfFour}
 
 -- the smallest board: a depth of 8 values, six channels; and one with all twenty
@@ -38,31 +43,71 @@ twoGroups =
 abbrev pub cutOfEight : Cut
 cutOfEight = record { recording = twoGroups; channels = 20; first = 0; last = 1; mask = 0x50009 }
 
--- offset binary, all channels of a group at once; and two's complement, one after the other, the writes the other way round
+-- offset binary, all channels of a group at once; and two's complement, one after the other, the writes the other way round, with a 1 in
+-- every bit that is free: D7 of 0Ch tries a software clock, and the size code is 15
 abbrev pub together : List Event
 together = write 0x00 0x90 ∷ write 0x0C 0x20 ∷ []
 
 abbrev pub inTurn : List Event
-inTurn = write 0x0C 0x20 ∷ write 0x00 0x00 ∷ []
+inTurn = write 0x0C 0xFFFFF6EF ∷ write 0x00 0xFFFF5F6E ∷ []
 
--- the board after n ticks of the file that is shipped, its cut written into an output of 73 bytes
-abbrev pub shippedBoard : Cut → Settings → List Event → ℕ → State
-shippedBoard q x two n = after (start leftOver) ((session (shipped x (cutBytes q (replicate 73 0) 0) two n)) .events)
+-- the board after n ticks: a power-up on the old record b, the cut, the two writes
+abbrev pub playedBoard : Board → Cut → Settings → List Event → ℕ → State
+playedBoard b q x two n = after (powered (stateOf b leftOver) x) (events q ++ (two ++ manyTicks n))
+
+-- the file that is shipped, its cut written into an output of 73 bytes, from the place on; the board after its n ticks
+abbrev pub shippedFile : Cut → ℕ → Settings → List Event → ℕ → List ℕ
+shippedFile q place x two = shipped x (cutBytes q (replicate 73 0) place) two
+
+abbrev pub shippedBoard : Cut → ℕ → Settings → List Event → ℕ → State
+shippedBoard q place x two n = after (start leftOver) ((session (shippedFile q place x two n)) .events)
+
+-- ---- What is told of them
+
+-- every event answers refusal 0, and fate 0 or 1
+pub record AllAnswered (os : List Outcome) : Type 0 where
+  pub refusals : map (λ (o : Outcome). o .answer .refusal) os ≡ replicate (length os) 0
+  pub fates : (i : ℕ) → getD (map (λ (o : Outcome). o .answer .fate) os) i 0 ≤ 1
+
+-- files with n ticks, run over the memory m: each is read to its end
+pub record FilesRead (m : List ℕ) (file : ℕ → List ℕ) : Type 0 where
+  pub whole : (n : ℕ) → (session (file n)) .end ≡ File
+  pub answers : (n : ℕ) → AllAnswered (outcomes (start m) ((session (file n)) .events))
+
+-- the first cut, a group a tick; outputs 0 and 2 are not chosen, and 20 is none
+pub record FourAtOnce (at : ℕ → State) : Type 0 where
+  pub first : (levelAt (at 1) 1 ≡ 0x2001) × (levelAt (at 1) 3 ≡ 0x2003)
+  pub second : (levelAt (at 2) 1 ≡ 0x3001) × (levelAt (at 2) 3 ≡ 0x3003)
+  pub held : (levelAt (at 1) 0 ≡ levelAt (at 0) 0) × (levelAt (at 2) 2 ≡ levelAt (at 1) 2) × (levelAt (at 2) 20 ≡ levelAt (at 1) 20)
+  pub over : stored (at 2) ≡ []
+
+-- the second cut, a channel a tick; two's complement
+pub record EightInTurn (at : ℕ → State) : Type 0 where
+  pub first : (levelAt (at 1) 0 ≡ 0x8100) × (levelAt (at 2) 3 ≡ 0x8103) × (levelAt (at 3) 16 ≡ 0x8110) × (levelAt (at 4) 18 ≡ 0x8112)
+  pub second : (levelAt (at 5) 0 ≡ 0x1100) × (levelAt (at 6) 3 ≡ 0x1103) × (levelAt (at 7) 16 ≡ 0x1110) × (levelAt (at 8) 18 ≡ 0x1112)
+  pub held : (k : ℕ) → k ≢ 16 → (levelAt (at 3) k ≡ levelAt (at 2) k) × (levelAt (at 7) k ≡ levelAt (at 6) k)
+  pub over : stored (at 8) ≡ []
 
 pub record Cuts-met : Type 0 where
   -- Cut-stored
   pub four-ordered : Ordered cutOfFour
-  pub four-equipped : Equipped cutOfFour (start leftOver) six
-  pub four-stored : StoredInOrder cutOfFour (powered (start leftOver) six)
+  pub four-equipped : (b : Board) → Equipped cutOfFour (stateOf b leftOver) six
+  pub four-stored : (b : Board) → StoredInOrder cutOfFour (powered (stateOf b leftOver) six)
+  pub four-answers : (b : Board) → AllAnswered (outcomes (powered (stateOf b leftOver) six) (events cutOfFour))
+  pub four-values : (b : Board) → stored (after (powered (stateOf b leftOver) six) (events cutOfFour)) ≡ 0x2001 ∷ 0x2003 ∷ 0x3001 ∷ 0x13003 ∷ []
   pub eight-ordered : Ordered cutOfEight
-  pub eight-equipped : Equipped cutOfEight (start leftOver) twenty
-  pub eight-stored : StoredInOrder cutOfEight (powered (start leftOver) twenty)
-  -- Shipped-plays, and so Channel-plays
-  pub four-plays : OnItsOutput cutOfFour 0x90 (shippedBoard cutOfFour six together)
-  pub eight-plays : OnItsOutput cutOfEight 0x00 (shippedBoard cutOfEight twenty inTurn)
-  -- what that says: of the first cut, channel 3 after the second tick, and channel 2, which is not chosen
-  pub third : levelAt (shippedBoard cutOfFour six together 2) 3 ≡ 0x3003
-  pub unchosen : levelAt (shippedBoard cutOfFour six together 2) 2 ≡ levelAt (shippedBoard cutOfFour six together 1) 2
-  -- of the second, channel 16, the third one chosen, after the third tick and after the seventh
-  pub sixteenth : levelAt (shippedBoard cutOfEight twenty inTurn 3) 16 ≡ 0x8110
-  pub again : levelAt (shippedBoard cutOfEight twenty inTurn 7) 16 ≡ 0x1110
+  pub eight-equipped : (b : Board) → Equipped cutOfEight (stateOf b leftOver) twenty
+  pub eight-stored : (b : Board) → StoredInOrder cutOfEight (powered (stateOf b leftOver) twenty)
+  pub eight-answers : (b : Board) → AllAnswered (outcomes (powered (stateOf b leftOver) twenty) (events cutOfEight))
+  pub eight-values : (b : Board) → stored (after (powered (stateOf b leftOver) twenty) (events cutOfEight))
+      ≡ 0x0100 ∷ 0x0103 ∷ 0x0110 ∷ 0x0112 ∷ 0x9100 ∷ 0x9103 ∷ 0x9110 ∷ 0x19112 ∷ []
+  -- Channel-plays
+  pub four-heard : (b : Board) → FourAtOnce (playedBoard b cutOfFour six together)
+  pub eight-heard : (b : Board) → EightInTurn (playedBoard b cutOfEight twenty inTurn)
+  -- Shipped-plays: the first cut ends with the output, the second fills it
+  pub four-read : FilesRead leftOver (shippedFile cutOfFour 32 six together)
+  pub four-plays : OnItsOutput cutOfFour 0x90 (shippedBoard cutOfFour 32 six together)
+  pub four-shipped : FourAtOnce (shippedBoard cutOfFour 32 six together)
+  pub eight-read : FilesRead leftOver (shippedFile cutOfEight 0 twenty inTurn)
+  pub eight-plays : OnItsOutput cutOfEight 0xFFFF5F6E (shippedBoard cutOfEight 0 twenty inTurn)
+  pub eight-shipped : EightInTurn (shippedBoard cutOfEight 0 twenty inTurn)

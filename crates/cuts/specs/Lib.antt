@@ -1,5 +1,8 @@
 pub mod Cut
 pub mod Laws
 pub mod Plays
+pub mod PlaysAtSize
 pub mod Examples
 pub mod Instances
+pub mod InstancesAtSize
+pub mod InstancesOfLaws
