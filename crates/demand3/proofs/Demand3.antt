@@ -4,6 +4,7 @@ use mathlib.Core.Path.{_≡_, refl, sym, ap, _∙_}
 use mathlib.Core.Bool.{false≢true}
 use mathlib.Core.List.{List, [], _∷_}
 use native.Mathlib.Nat.{le-refl}
+use native.Mathlib.Omega.{arith}
 use lib.ListN.{take}
 use Rattle.rules.specs.declared.Core.{Core}
 use Rattle.rules.specs.declared.Event.{Event}
@@ -30,10 +31,10 @@ runs : (s s′ : State) {es es′ : List Event} → AllNeverLower es es′ → R
 unfolding outcomes after PowerUpsAlike NothingLost NoQuarters
 runs s s′ none r a l = record { lossless = tt; related = r; answers = none; request = λ q h. h }
 runs s s′ (next {e} {e′} {es} {es′} w ws) r a l =
-    let t : Together s s′ (step s e) (step s′ e′) = step-together s s′ w r (a .0) (l .0) in
+    let t : Together s s′ (step s e) (step s′ e′) = step-together s s′ w r (a .0) (λ h. l .0 (omega (arith, h))) in
     let u : Both ((step s e) .state) es ((step s′ e′) .state) es′ = runs ((step s e) .state) ((step s′ e′) .state) ws (t .related) (a .1) (l .1) in
     record {
-      lossless = (t .lossless, u .lossless);
+      lossless = (λ h. l .0 (omega (arith, h, t .fate)), u .lossless);
       related = u .related;
       answers = next (t .refusal) (t .moved) (t .fate) (u .answers);
       request = λ q h. u .request (q .1) (t .request (q .0) h);
@@ -72,25 +73,25 @@ one-accepted o o′ (same (write b v)) a a′ = tt
 one-accepted o o′ (same (read b)) a a′ = tt
 one-accepted o o′ (same (signal x)) a a′ = tt
 
-all-accepted : (s s′ : State) {es es′ : List Event} → AllNeverLower es es′ → PowerUpsAccepted s es → PowerUpsAccepted s′ es′ → PowerUpsAlike s es s′ es′
+pub all-accepted : (s s′ : State) {es es′ : List Event} → AllNeverLower es es′ → PowerUpsAccepted s es → PowerUpsAccepted s′ es′ → PowerUpsAlike s es s′ es′
 unfolding PowerUpsAccepted PowerUpsAlike
 all-accepted s s′ none a a′ = tt
 all-accepted s s′ (next w ws) a a′ = (one-accepted _ _ w (a .0) (a′ .0), all-accepted _ _ ws (a .1) (a′ .1))
 
 -- ---- Beginnings
 
-lower-take : (n : ℕ) {es es′ : List Event} → AllNeverLower es es′ → AllNeverLower (take n es) (take n es′)
+pub lower-take : (n : ℕ) {es es′ : List Event} → AllNeverLower es es′ → AllNeverLower (take n es) (take n es′)
 lower-take zero w = none
 lower-take (suc n) none = none
 lower-take (suc n) (next w ws) = next w (lower-take n ws)
 
-accepted-take : (n : ℕ) (s : State) (es : List Event) → PowerUpsAccepted s es → PowerUpsAccepted s (take n es)
+pub accepted-take : (n : ℕ) (s : State) (es : List Event) → PowerUpsAccepted s es → PowerUpsAccepted s (take n es)
 unfolding PowerUpsAccepted
 accepted-take zero s es a = tt
 accepted-take (suc n) s [] a = tt
 accepted-take (suc n) s (e ∷ es) a = (a .0, accepted-take n _ es (a .1))
 
-quarters-take : (n : ℕ) (s : State) (es : List Event) → NoQuarters s es → NoQuarters s (take n es)
+pub quarters-take : (n : ℕ) (s : State) (es : List Event) → NoQuarters s es → NoQuarters s (take n es)
 unfolding NoQuarters
 quarters-take zero s [] q = q
 quarters-take zero s (e ∷ es) q = q .0

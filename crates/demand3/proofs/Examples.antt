@@ -1,70 +1,14 @@
 -- The examples of demand 3, by computation.
 use Prim.Native.Nat.{ℕ}
 use mathlib.Core.Path.{_≡_, refl, ap}
-use mathlib.Core.Bool.{Bool, true, not, _&&_, true≢false, false≢true}
+use mathlib.Core.Bool.{true≢false, false≢true}
 use mathlib.Core.List.{List, [], _∷_}
 use native.Mathlib.Omega.{arith}
-use borrow.Author.Tests.{eqb-true, eqb-false, not-true}
-use lib.Dec.{eqb}
 use lib.ListN.{length}
 use Rattle.rules.specs.declared.Event.{Event}
-use Rattle.rules.specs.declared.Event.the-variants.{PowerUp as powerUp, Write as write, Read as read, Signal as signal}
-use Rattle.rules.specs.Record.{State}
-use Rattle.rules.specs.Step.{step}
-use Rattle.demand3.specs.Demand3.{NeverLower, same, deeper, larger, AllNeverLower, none, next, PowerUpAccepted, PowerUpsAccepted, NothingLost, losesNothing, NoQuarter, NoQuarters, PowerUpsAlike}
-use Rattle.demand3.specs.Examples.{settings, firstRun, secondRun, firstStart, secondStart, Demand3-met, emptying, Request-met, refusing, Refused-met, again, Alike-matters, tooSmall, largeEnough, Loss-matters, Quarter-matters}
-use Rattle.rules.proofs.Choice.{and-both}
-use Rattle.rules.proofs.Open.{rules-open}
-use Rattle.demand3.proofs.Lossless.{lossless-test}
-
--- ---- The premises as tests
-
-unstopped : Event → ℕ → Bool
-unstopped (powerUp x) n = eqb n 0
-unstopped (write a v) n = true
-unstopped (read a) n = true
-unstopped (signal x) n = true
-
-allAccepted : State → List Event → Bool
-allAccepted s [] = true
-allAccepted s (e ∷ es) = unstopped e ((step s e) .answer .refusal) && allAccepted ((step s e) .state) es
-
-accepted-one : (s : State) (e : Event) → unstopped e ((step s e) .answer .refusal) ≡ true → PowerUpAccepted e (step s e)
-unfolding unstopped
-accepted-one s (powerUp x) h = eqb-true _ _ h
-accepted-one s (write a v) h = tt
-accepted-one s (read a) h = tt
-accepted-one s (signal x) h = tt
-
-accepted-all : (s : State) (es : List Event) → allAccepted s es ≡ true → PowerUpsAccepted s es
-unfolding allAccepted PowerUpsAccepted
-accepted-all s [] h = tt
-accepted-all s (e ∷ es) h =
-    let t = and-both (unstopped e ((step s e) .answer .refusal)) (allAccepted ((step s e) .state) es) h in
-    (accepted-one s e (t .0), accepted-all ((step s e) .state) es (t .1))
-
-lossless-all : (s : State) (es : List Event) → losesNothing s es ≡ true → NothingLost s es
-lossless-all s es = lossless-test s es .0
-
-unselected : State → Bool
-unselected s = not (eqb (s .board .core .control .selection) 3) && not (eqb (s .board .core .control .selection) 4)
-
-noneSelected : State → List Event → Bool
-noneSelected s [] = unselected s
-noneSelected s (e ∷ es) = unselected s && noneSelected ((step s e) .state) es
-
-quarter-none : (s : State) → unselected s ≡ true → NoQuarter s
-unfolding unselected
-quarter-none s h =
-    let t = and-both (not (eqb (s .board .core .control .selection) 3)) (not (eqb (s .board .core .control .selection) 4)) h in
-    record { low = eqb-false _ _ (not-true _ (t .0)); high = eqb-false _ _ (not-true _ (t .1)) }
-
-quarters-none : (s : State) (es : List Event) → noneSelected s es ≡ true → NoQuarters s es
-unfolding noneSelected NoQuarters
-quarters-none s [] h = quarter-none s h
-quarters-none s (e ∷ es) h =
-    let t = and-both (unselected s) (noneSelected ((step s e) .state) es) h in
-    (quarter-none s (t .0), quarters-none ((step s e) .state) es (t .1))
+use Rattle.demand3.specs.Demand3.{NeverLower, same, deeper, larger, AllNeverLower, none, next, PowerUpsAlike}
+use Rattle.demand3.specs.Examples.{settings, firstRun, secondRun, firstStart, secondStart, Demand3-met, emptying, Request-met, shutOut, Closed-met, refusing, Refused-met, again, Alike-matters, tooSmall, largeEnough, Loss-matters, Quarter-matters}
+use Rattle.demand3.proofs.Premises.{accepted-all, lossless-all, quarters-none, tests-open}
 
 -- ---- Pairs of events, in a row
 
@@ -75,14 +19,14 @@ _▸_ w ws = next w ws
 one : {e : Event} → NeverLower e e
 one {e} = same e
 
-sames : (es : List Event) → AllNeverLower es es
+pub sames : (es : List Event) → AllNeverLower es es
 sames [] = none
 sames (e ∷ es) = next (same e) (sames es)
 
 -- ---- The examples
 
 pub demand3-met : Demand3-met
-unfolding allAccepted unstopped losesNothing noneSelected unselected rules-open
+unfolding tests-open
 demand3-met =
     record {
       lower = deeper _ 3 (omega arith) ▸ one ▸ larger 0x21 0x2F refl (omega arith)
@@ -102,7 +46,7 @@ demand3-met =
     }
 
 pub request-met : Request-met
-unfolding allAccepted unstopped losesNothing noneSelected unselected rules-open
+unfolding tests-open
 request-met =
     record {
       lower = deeper (settings 1) 3 (omega arith) ▸ sames _;
@@ -116,8 +60,20 @@ request-met =
       cleared = refl;
     }
 
+pub closed-met : Closed-met
+unfolding tests-open
+closed-met =
+    record {
+      lower = deeper (settings 0) 1 (omega arith) ▸ one ▸ one ▸ one ▸ larger 0x120 0x12F refl (omega arith) ▸ one
+          ▸ larger 0x30020 0x3002F refl (omega arith) ▸ sames _;
+      accepted = accepted-all firstStart (shutOut 0 0) refl;
+      accepted′ = accepted-all secondStart (shutOut 1 15) refl;
+      lossless = lossless-all firstStart (shutOut 0 0) refl;
+      fate = refl;
+    }
+
 pub refused-met : Refused-met
-unfolding losesNothing PowerUpsAlike rules-open
+unfolding PowerUpsAlike tests-open
 refused-met =
     record {
       lower = deeper (settings 1) 3 (omega arith) ▸ sames _;
@@ -128,7 +84,7 @@ refused-met =
     }
 
 pub alike-matters : Alike-matters
-unfolding losesNothing rules-open
+unfolding tests-open
 alike-matters =
     record {
       lower = one ▸ one ▸ deeper (settings 1) 9 (omega arith) ▸ none;
@@ -137,7 +93,7 @@ alike-matters =
     }
 
 pub loss-matters : Loss-matters
-unfolding allAccepted unstopped rules-open
+unfolding tests-open
 loss-matters =
     record {
       lower = deeper (settings 0) 1 (omega arith) ▸ sames _;
@@ -147,7 +103,7 @@ loss-matters =
     }
 
 pub quarter-matters : Quarter-matters
-unfolding allAccepted unstopped losesNothing rules-open
+unfolding tests-open
 quarter-matters =
     record {
       low = record {

@@ -4,4 +4,7 @@ pub mod FullOnly
 pub mod Lower
 pub mod TwoRuns
 pub mod Demand3
+pub mod Premises
+pub mod Computed
 pub mod Examples
+pub mod Instances

@@ -133,14 +133,13 @@ pub record Together (s s′ : State) (o o′ : Outcome) : Type 0 where
   pub refusal : o .answer .refusal ≡ o′ .answer .refusal
   pub moved : o .answer .moved ≡ o′ .answer .moved
   pub fate : o .answer .fate ≡ o′ .answer .fate
-  pub lossless : o′ .answer .fate ≢ 2
   pub related : Related (o .state) (o′ .state)
   pub request : NoQuarter s → s .board .request ≡ s′ .board .request → o .state .board .request ≡ o′ .state .board .request
 
 refused-together : (n n′ : ℕ) (s s′ : State) → n ≡ n′ → Related s s′ → Together s s′ (refused n s) (refused n′ s′)
 unfolding refused
 refused-together n n′ s s′ e r =
-    record { refusal = e; moved = refl; fate = refl; lossless = λ h. omega arith; related = r; request = λ q h. h }
+    record { refusal = e; moved = refl; fate = refl; related = r; request = λ q h. h }
 
 -- an event that both refuse by one number
 both-refused : (s s′ : State) (e e′ : Event) → Related s s′ → refusal s e ≡ refusal s′ e′ → eqb (refusal s e) 0 ≡ false
@@ -159,12 +158,10 @@ done-together s s′ e e′ o o′ l r f f′ k =
     let t : Kept s e = kept s e o f in
     let t′ : Kept s′ e′ = kept s′ e′ o′ f′ in
     let ls = t .lists ∙ ap₂ (λ (q : Play) (buf : List ℕ). onList (q .op) buf) p (r .lists) ∙ sym (t′ .lists) in
-    let fates = ap (λ (q : Play). fateNumber (q .fate)) p in
     record {
       refusal = refl;
       moved = ap (λ (q : Play). q .moved) p;
-      fate = fates;
-      lossless = λ h. k (fates ∙ h);
+      fate = ap (λ (q : Play). fateNumber (q .fate)) p;
       related = record {
         core = ap (λ (q : Play). q .core) p;
         size = l .sizes (s .board .size) (s′ .board .size) (r .size);
@@ -222,7 +219,6 @@ up-together s s′ x x′ l a a′ d =
       refusal = refl;
       moved = refl;
       fate = refl;
-      lossless = λ z. omega arith;
       related = record {
         core = ap (λ (q : Play). q .core) (l .plays (s .board .core) (stored s) true);
         size = record { fitted = d; code = le-refl 15 };

@@ -1,6 +1,7 @@
--- Demand 3 at work: three pairs of runs that meet every premise, one of them with an interrupt selected, one with a power-up that both
--- refuse, and pairs that show why a loss ends its promise, why a power-up that one run alone refuses does, and why a quarter-full
--- interrupt ends that of the request.
+-- Demand 3 at work: four pairs of runs that meet every premise, one of them with an interrupt selected, one with a value lost to a closed
+-- buffer, one with a power-up that both refuse, and pairs that show why a loss ends its promise, why a power-up that one run alone
+-- refuses does, and why a quarter-full interrupt ends that of the request. `Demand3-computed` has the demand's words without its proof,
+-- Instances.antt what its theorems tell of these runs.
 use Prim.Native.Nat.{ℕ, _+_}
 use mathlib.Core.Path.{_≡_}
 use mathlib.Core.Logic.{_≢_}
@@ -14,7 +15,7 @@ use Rattle.rules.specs.Record.{State, activeSize, stored, start}
 use Rattle.rules.specs.Step.{step}
 use Rattle.rules.specs.Session.{after}
 use Rattle.rules.specs.Bench.{bcr, mask, bor, load, clk}
-use Rattle.demand3.specs.Demand3.{AllNeverLower, PowerUpsAccepted, NothingLost, NoQuarters, PowerUpsAlike}
+use Rattle.demand3.specs.Demand3.{NeverLower, AllNeverLower, PowerUpsAccepted, NothingLost, losesNothing, NoQuarters, Agree, PowerUpsAlike}
 
 abbrev pub settings : ℕ → Settings
 settings d = record { fitted = d; range = 0; filter = 0; kit = 2; firmware = 0 }
@@ -87,6 +88,18 @@ pub record Request-met : Type 0 where
   pub set : (after firstStart (take 6 (emptying 1))) .board .request ≡ true
   pub cleared : (after firstStart (take 7 (emptying 1))) .board .request ≡ false
 
+-- "lost nothing to a full buffer": a value that is lost to a closed one, fate 3, does not count. The buffer is closed for the value 3, then
+-- open again, D16 and D17 left as they are; `code` is the size code of both writes.
+abbrev pub shutOut : ℕ → ℕ → List Event
+shutOut d code = fit d ∷ mask 1 ∷ load 1 ∷ load 2 ∷ bor (0x120 + code) ∷ load 3 ∷ bor (0x30020 + code) ∷ load 4 ∷ clk ∷ []
+
+pub record Closed-met : Type 0 where
+  pub lower : AllNeverLower (shutOut 0 0) (shutOut 1 15)
+  pub accepted : PowerUpsAccepted firstStart (shutOut 0 0)
+  pub accepted′ : PowerUpsAccepted secondStart (shutOut 1 15)
+  pub lossless : NothingLost firstStart (shutOut 0 0)
+  pub fate : (step (after firstStart (take 5 (shutOut 0 0))) (load 3)) .answer .fate ≡ 3
+
 -- A power-up that both runs refuse, since a depth of 4,096 is more than either memory: both go on as they were.
 abbrev pub refusing : ℕ → List Event
 refusing d = fit d ∷ load 1 ∷ fit 9 ∷ load 2 ∷ []
@@ -108,11 +121,14 @@ pub record Alike-matters : Type 0 where
   pub differ : stored (after firstStart (again 1)) ≢ stored (after secondStart (again 9))
 
 -- The premise on losses is needed: here the first run loses its ninth value, and the stored values differ from then on.
+abbrev pub nineLoads : List Event
+nineLoads = load 1 ∷ load 2 ∷ load 3 ∷ load 4 ∷ load 5 ∷ load 6 ∷ load 7 ∷ load 8 ∷ load 9 ∷ []
+
 abbrev pub tooSmall : List Event
-tooSmall = fit 0 ∷ load 1 ∷ load 2 ∷ load 3 ∷ load 4 ∷ load 5 ∷ load 6 ∷ load 7 ∷ load 8 ∷ load 9 ∷ []
+tooSmall = fit 0 ∷ nineLoads
 
 abbrev pub largeEnough : List Event
-largeEnough = fit 1 ∷ load 1 ∷ load 2 ∷ load 3 ∷ load 4 ∷ load 5 ∷ load 6 ∷ load 7 ∷ load 8 ∷ load 9 ∷ []
+largeEnough = fit 1 ∷ nineLoads
 
 pub record Loss-matters : Type 0 where
   pub lower : AllNeverLower tooSmall largeEnough
@@ -138,3 +154,15 @@ pub record Quarter-matters : Type 0 where
   pub low : RequestsDiffer 3 0xB10
   -- D11 clears the request: at size 8 the sixth value sets it, at size 32 none does
   pub high : RequestsDiffer 4 0x410
+
+-- The demand's words by computation, without its proof: one that says too much or too little is false here.
+pub record Demand3-computed : Type 0 where
+  -- "never lower": neither a fitted code nor a size code
+  pub shallower : ¬ NeverLower (fit 3) (fit 1)
+  pub smaller : ¬ NeverLower (bor 0x21) (bor 0x20)
+  -- a value lost to a closed buffer does not count, and every clause holds
+  pub passes : losesNothing firstStart (shutOut 0 0) ≡ true
+  pub agree : Agree firstStart (shutOut 0 0) secondStart (shutOut 1 15)
+  -- the interrupts 3 and 4 are the quarters
+  pub low : ¬ NoQuarters firstStart (filling 0xB10 0)
+  pub high : ¬ NoQuarters firstStart (filling 0x410 0)

@@ -18,7 +18,7 @@ code-put k v l = (omega (arith, l), omega (arith, l))
 
 -- ---- What the code changes
 
-abbrev offsetIn : Event → ℕ
+abbrev pub offsetIn : Event → ℕ
 offsetIn (powerUp x) = 0
 offsetIn (write o v) = o
 offsetIn (read o) = 0

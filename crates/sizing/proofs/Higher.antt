@@ -16,7 +16,7 @@ use Rattle.rules.proofs.Steps.{refusal-answered}
 use Rattle.rules.proofs.Own.{power-up-own}
 use Rattle.laws.proofs.Memory.{memory-kept}
 use Rattle.demand3.specs.Demand3.{NothingLost, Agree, PowerUpAlike, PowerUpsAlike}
-use Rattle.demand3.proofs.Lossless.{lossless-test}
+use Rattle.demand3.proofs.Lossless.{lossless-test, lossless-take}
 use Rattle.demand3.proofs.Demand3.{demand3-alike}
 use Rattle.sizing.specs.Coded.{sized, sizedAll}
 use Rattle.sizing.specs.Smallest.{replays, playsInTurn}
@@ -54,18 +54,12 @@ all-alike j k (suc n) (e ∷ es) s s′ q = (
 
 -- ---- Demand 3 of the two replays
 
-lost-before : (n : ℕ) (s : State) (es : List Event) → NothingLost s es → NothingLost s (take n es)
-unfolding NothingLost
-lost-before zero s es h = tt
-lost-before (suc n) s [] h = tt
-lost-before (suc n) s (e ∷ es) h = (h .0, lost-before n _ es (h .1))
-
 module _ (es : List Event) (m m′ : List ℕ) (same : length m ≡ length m′) (j k : ℕ) (lower : j ≤ k) (within : k ≤ 15) where
   pub replays-agree : NothingLost (start m) (sizedAll j es) → (n : ℕ)
       → Agree (start m) (take n (sizedAll j es)) (start m′) (take n (sizedAll k es))
   replays-agree h n =
       demand3-alike m m′ _ _ (all-never-lower j k lower within es) n (all-alike j k n es (start m) (start m′) same)
-      (lost-before n (start m) (sizedAll j es) h)
+      (lossless-take n (start m) (sizedAll j es) h)
 
   pub higher-plays : NothingLost (start m) (sizedAll j es) → NothingLost (start m′) (sizedAll k es)
   higher-plays h =
@@ -82,7 +76,7 @@ after-long s (e ∷ es) = after-long ((step s e) .state) es ∙ (memory-kept s e
 replays-long : (es : List Event) (m : List ℕ) (k : ℕ) → length (replays es m k) ≡ length m
 unfolding replays
 replays-long es m zero = refl
-replays-long es m (suc k) = after-long (start (replays es m k)) (sizedAll k es) ∙ replays-long es m k
+replays-long es m (suc k) = after-long _ _ ∙ replays-long es m k
 
 module _ (es : List Event) (m m′ : List ℕ) (k : ℕ) (same : length m′ ≡ length m) (within : k ≤ 15) where
   -- as it plays there, it plays over any memory of that length

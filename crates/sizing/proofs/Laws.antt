@@ -11,7 +11,7 @@ use lib.ListN.{length}
 use Rattle.files.specs.File.{session, faultNumber}
 use Rattle.sizing.specs.Smallest.{replays, codes, sizeRefusal, sizeCode}
 use Rattle.sizing.specs.Theorems.{Plays, Loses}
-use Rattle.sizing.specs.Laws.{SizeGiven, badFile, noSize, smallest, Size-exactly, Memory-left}
+use Rattle.sizing.specs.Laws.{SizeGiven, badFile, noSize, smallest, Size-exactly, ReplayedInTurn, Memory-left}
 use Rattle.sizing.proofs.Answered.{size-cases, not-both-ends, one-fault, codeFound, found-plays, lower-loses, none-found}
 use Rattle.sizing.proofs.Theorems.{fault-other}
 
@@ -58,9 +58,12 @@ size-exactly s m r k = (
 
 -- ---- The sample memory
 
+replayed-in-turn : (s m : List ℕ) (n : ℕ) → ReplayedInTurn s m n (replays ((session s) .events) m n)
+unfolding replays
+replayed-in-turn s m n = record { memories = replays ((session s) .events) m; lent = refl; each = λ k l. refl; last = refl }
+
 pub memory-left : Memory-left
 memory-left s m =
-    let es = (session s) .events in
     record {
       untouched = λ why p h.
           size-cases (λ _ _ left. left ≡ m) s m
@@ -68,13 +71,13 @@ memory-left s m =
           (λ e _. absurd (not-both-ends _ why p e h))
           (λ e _. absurd (not-both-ends _ why p e h));
       named =
-          size-cases (λ r k left. r ≡ 0 → left ≡ replays es m (suc k)) s m
+          size-cases (λ r k left. r ≡ 0 → ReplayedInTurn s m (suc k) left) s m
           (λ why p _ h. absurd (fault-other why .0 h))
-          (λ _ _ _. refl)
+          (λ _ _ _. replayed-in-turn s m _)
           (λ _ _ h. absurd (omega (arith, h)));
       all =
-          size-cases (λ r _ left. r ≡ 19 → left ≡ replays es m 16) s m
+          size-cases (λ r _ left. r ≡ 19 → ReplayedInTurn s m 16 left) s m
           (λ why p _ h. absurd (fault-other why .1 h))
           (λ _ _ h. absurd (omega (arith, h)))
-          (λ _ _ _. refl);
+          (λ _ _ _. replayed-in-turn s m _);
     }

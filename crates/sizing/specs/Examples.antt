@@ -103,6 +103,17 @@ examples =
           ∷ memoryLeft shows (1 ∷ 2 ∷ 3 ∷ 4 ∷ 5 ∷ 6 ∷ 7 ∷ 8 ∷ 0x10009 ∷ 1 ∷ 2 ∷ 3 ∷ 4 ∷ 5 ∷ 6 ∷ 7 ∷ 8 ∷ 0x10009 ∷ 3 ∷ 4 ∷ 5 ∷ 6 ∷ replicate 10 7)
           ∷ [];
     }
+    -- the same of three codes. The first part is as above, and at code 0 alone goes up to the entry 21. In the second, with the buffer
+    -- emptied, fifteen of seventeen values leave at once; the seventeenth has EOF, and ends the burst after two clocks. At code 1 that
+    -- value is lost, and the sixteenth goes on round for all four, up to the entry 19; code 2 writes up to the entry 18
+    ∷ record {
+      session = fit 2 ∷ bcr 0x11 ∷ mask 1 ∷ bor 0x20 ∷ loads 8 ++ load 0x10009 ∷ bor 0x120 ∷ signal trigger ∷ clocks 14
+          ++ bor 0x820 ∷ bcr 0x90 ∷ mask 0x7FFF ∷ loads 16 ++ load 0x10011 ∷ clk
+          ∷ bcr 0x11 ∷ mask 1 ∷ bor 0x120 ∷ signal trigger ∷ clocks 4;
+      sights = codeNamed shows (2 ∷ [])
+          ∷ memoryLeft shows (1 ∷ 2 ∷ 3 ∷ 4 ∷ 5 ∷ 6 ∷ 7 ∷ 8 ∷ 9 ∷ 10 ∷ 11 ∷ 12 ∷ 13 ∷ 14 ∷ 15 ∷ 16 ∷ 0x10011 ∷ 16 ∷ 0x10011 ∷ 16 ∷ 5 ∷ 6 ∷ replicate 10 7)
+          ∷ [];
+    }
     ∷ []
 
 abbrev pub Sizes-shown : Type 0

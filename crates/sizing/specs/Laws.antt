@@ -9,12 +9,14 @@ use mathlib.Core.List.{List, [], _∷_}
 use lib.ListN.{length}
 use Rattle.rules.specs.declared.Event.{Event}
 use Rattle.rules.specs.declared.Event.the-variants.{Write as write}
+use Rattle.rules.specs.Record.{start}
+use Rattle.rules.specs.Session.{after}
 use Rattle.files.specs.declared.Fault.{Fault}
 use Rattle.files.specs.declared.End.the-variants.{File, Refused}
 use Rattle.files.specs.File.{session, faultNumber}
 use Rattle.sizing.specs.Coded.{sizedAll}
-use Rattle.sizing.specs.Smallest.{replays, sizeRefusal, sizeCode, sizeMemory}
-use Rattle.sizing.specs.Theorems.{Plays, Loses}
+use Rattle.sizing.specs.Smallest.{sizeRefusal, sizeCode, sizeMemory}
+use Rattle.sizing.specs.Theorems.{eventsWith, Plays, Loses}
 
 -- ---- The session with a code
 
@@ -47,13 +49,22 @@ Size-exactly = (s m : List ℕ) (r k : ℕ) → ((sizeRefusal s m ≡ r) × (siz
 
 -- ---- The sample memory
 
+-- "replaying code 0, 1 and so on .., each over what the one before left": m is lent, the codes below n are replayed, and `left` is left
+pub record ReplayedInTurn (s m : List ℕ) (n : ℕ) (left : List ℕ) : Type 0 where
+  -- the memory lent, and those that the replays leave
+  pub memories : ℕ → List ℕ
+  pub lent : memories 0 ≡ m
+  -- the replay of the code k starts unpowered and goes on to its end
+  pub each : (k : ℕ) → k < n → memories (suc k) ≡ (after (start (memories k)) (eventsWith s k)) .memory
+  pub last : left ≡ memories n
+
 pub record MemoryLeft (s m : List ℕ) : Type 0 where
   -- "10 to 13 first, with the memory untouched"
   pub untouched : (why : Fault) (p : ℕ) → (session s) .end ≡ Refused why p → sizeMemory s m ≡ m
   -- "left as by replaying code 0, 1 and so on up to the code named"
-  pub named : sizeRefusal s m ≡ 0 → sizeMemory s m ≡ replays ((session s) .events) m (suc (sizeCode s m))
+  pub named : sizeRefusal s m ≡ 0 → ReplayedInTurn s m (suc (sizeCode s m)) (sizeMemory s m)
   -- "(15 for refusal 19)"
-  pub all : sizeRefusal s m ≡ 19 → sizeMemory s m ≡ replays ((session s) .events) m 16
+  pub all : sizeRefusal s m ≡ 19 → ReplayedInTurn s m 16 (sizeMemory s m)
 
 abbrev pub Memory-left : Type 0
 Memory-left = (s m : List ℕ) → MemoryLeft s m
