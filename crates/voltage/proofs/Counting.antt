@@ -1,15 +1,15 @@
--- What counts, event by event; and where the first accepted power-up of a session stands.
+-- What counts, event by event; and where the last accepted power-up of a session stands.
 use Prim.Native.Nat.{ℕ}
 use mathlib.Core.Path.{_≡_, refl, sym, ap, _∙_, subst}
 use mathlib.Core.Logic.{_⊎_, inl, inr}
-use mathlib.Core.Bool.{Bool, true, false, true≢false, false≢true}
+use mathlib.Core.Bool.{Bool, true, false, not, _&&_, true≢false, false≢true}
 use mathlib.Core.List.{List, [], _∷_, _++_, reverseAux}
 use borrow.Author.Tests.{eqb-true, eq-eqb, ne-eqb}
 use Rattle.laws.specs.Types.{Settings, Event, powerUp, write, read, signal, tick}
 use Rattle.rules.specs.Record.{State}
 use Rattle.rules.specs.Step.{Outcome, step}
 use Rattle.rules.specs.Session.{outcomes, after}
-use Rattle.rules.proofs.Choice.{either, cond-true}
+use Rattle.rules.proofs.Choice.{either, cond-true, and-both, not-true, not-both}
 use Rattle.voltage.specs.Counting.{Counted, nothingCounted, freshly, also, isPowerUp, startsAfresh, countEvent, counted}
 use Rattle.voltage.specs.Table.{powerRefusal}
 use Rattle.voltage.specs.Laws.{UpAccepted, NoneAccepted, levelsAfter, Counts-since, Counts-none}
@@ -85,6 +85,7 @@ pub record Powered (s : State) (es : List Event) : Type 0 where
   pub settings : Settings
   pub parted : es ≡ before ++ (powerUp settings ∷ later)
   pub accepted : UpAccepted (after s before) settings
+  pub no-other : NoneAccepted ((step (after s before) (powerUp settings)) .state) later
 
 abbrev noEvents : List Event → Bool
 noEvents [] = true
@@ -121,24 +122,44 @@ parted-some : (before later : List Event) (e : Event) → _≡_ {A = List Event}
 parted-some [] later e h = true≢false (ap noEvents h)
 parted-some (b ∷ before) later e h = true≢false (ap noEvents h)
 
+-- none is, by computation
+unfoldable pub neverAfresh : State → List Event → Bool
+neverAfresh s [] = true
+neverAfresh s (e ∷ es) = not (startsAfresh e (step s e)) && neverAfresh ((step s e) .state) es
+
+pub never-none : (s : State) (es : List Event) → neverAfresh s es ≡ true → NoneAccepted s es
+unfolding neverAfresh
+never-none s [] h = λ before later x e. absurd (parted-some before later (powerUp x) e)
+never-none s (e ∷ es) h =
+    let t = and-both (not (startsAfresh e (step s e))) (neverAfresh ((step s e) .state) es) h in
+    none-more s e es (not-true _ (not-both _ (t .0))) (never-none ((step s e) .state) es (t .1))
+
 pub powered-or-not : (s : State) (es : List Event) → NoneAccepted s es ⊎ Powered s es
-unfolding after
-powered-or-not s [] = inl (λ before later x h. absurd (parted-some before later (powerUp x) h))
+unfolding after neverAfresh
+powered-or-not s [] = inl (never-none s [] refl)
 powered-or-not s (e ∷ es) = go (startsAfresh e (step s e)) refl (powered-or-not ((step s e) .state) es)
   where
     go : (t : Bool) → startsAfresh e (step s e) ≡ t → NoneAccepted ((step s e) .state) es ⊎ Powered ((step s e) .state) es
         → NoneAccepted s (e ∷ es) ⊎ Powered s (e ∷ es)
-    go true h r =
+    go true h (inl n) =
         let u = is-up s e h in
-        inr (record { before = []; later = es; settings = u .0; parted = ap (λ (d : Event). d ∷ es) (u .1); accepted = u .2 })
+        inr (record {
+          before = [];
+          later = es;
+          settings = u .0;
+          parted = ap (λ (d : Event). d ∷ es) (u .1);
+          accepted = u .2;
+          no-other = subst (λ (d : Event). NoneAccepted ((step s d) .state) es) (u .1) n;
+        })
     go false h (inl n) = inl (none-more s e es h n)
-    go false h (inr p) =
+    go t h (inr p) =
         inr (record {
           before = e ∷ p .before;
           later = p .later;
           settings = p .settings;
           parted = ap (λ (ds : List Event). e ∷ ds) (p .parted);
           accepted = p .accepted;
+          no-other = p .no-other;
         })
 
 -- ---- Once something counts, something does
@@ -171,3 +192,30 @@ unfolding counted after
 counted-some w s [] later x a =
     counted-on _ ((step s (powerUp x)) .state) later (_, _, ap (λ (v : Counted). v .levels) (count-up s x w a))
 counted-some w s (e ∷ before) later x a = counted-some (countEvent e (step s e) w) ((step s e) .state) before later x a
+
+-- ---- Only one is followed by none
+
+abbrev settingsIn : Event → Settings
+settingsIn (powerUp x) = x
+settingsIn (write a v) = record { fitted = 0; range = 0; filter = 0; kit = 0; firmware = 0 }
+settingsIn (read a) = record { fitted = 0; range = 0; filter = 0; kit = 0; firmware = 0 }
+settingsIn (signal x) = record { fitted = 0; range = 0; filter = 0; kit = 0; firmware = 0 }
+
+pub one-last : (s : State) (b b′ l l′ : List Event) (x x′ : Settings) → b ++ (powerUp x ∷ l) ≡ b′ ++ (powerUp x′ ∷ l′)
+    → UpAccepted (after s b) x
+    → UpAccepted (after s b′) x′
+    → NoneAccepted ((step (after s b) (powerUp x)) .state) l
+    → NoneAccepted ((step (after s b′) (powerUp x′)) .state) l′
+    → (b ≡ b′) × (x ≡ x′) × (l ≡ l′)
+unfolding after
+one-last s [] [] l l′ x x′ e a a′ n n′ = (refl, ap settingsIn (ap firstIn e), ap restIn e)
+one-last s [] (d ∷ b′) l l′ x x′ e a a′ n n′ =
+    absurd (n b′ l′ x′ (ap restIn e) (subst (λ (c : Event). UpAccepted (after ((step s c) .state) b′) x′) (sym (ap firstIn e)) a′))
+one-last s (c ∷ b) [] l l′ x x′ e a a′ n n′ =
+    absurd (n′ b l x (sym (ap restIn e)) (subst (λ (d : Event). UpAccepted (after ((step s d) .state) b) x) (ap firstIn e) a))
+one-last s (c ∷ b) (d ∷ b′) l l′ x x′ e a a′ n n′ =
+    let same = sym (ap firstIn e) in
+    let r = one-last ((step s c) .state) b b′ l l′ x x′ (ap restIn e) a
+    (subst (λ (z : Event). UpAccepted (after ((step s z) .state) b′) x′) same a′) n
+    (subst (λ (z : Event). NoneAccepted ((step (after ((step s z) .state) b′) (powerUp x′)) .state) l′) same n′) in
+    ((λ i. ap firstIn e i ∷ r .0 i), r .1, r .2)

@@ -2,17 +2,17 @@
 use Prim.Native.Nat.{ℕ, _+_, _-_, _*_, _≤_, _<_}
 use mathlib.Core.Path.{_≡_, refl, sym, ap, _∙_, subst}
 use mathlib.Core.Bool.{Bool, true, false, true≢false}
-use native.Mathlib.Nat.{zero-mul, mul-le-mul, mul-pos}
+use native.Mathlib.Nat.{zero-mul, add-mul, mul-le-mul, mul-pos, le-of-mul-le-mul-right}
 use native.Mathlib.Decide.{ℕ-discrete}
 use native.Mathlib.Omega.{arith}
 use borrow.Author.Tests.{lt-ltb, le-ltb, ltb-true, ltb-false}
 use lib.Dec.{ltb, eqb}
-use lib.Ieee.{round, neg, eq}
+use lib.Ieee.{round, neg, eq, le}
 use lib.Ieee.Exact.{HasValue}
 use Rattle.rules.proofs.Choice.{either}
 use Rattle.voltage.specs.Volts.{factor, share, voltsOf, zeroVolts}
 use Rattle.voltage.specs.Laws.{Exact, Volts-exact}
-use Rattle.voltage.proofs.Floats.{Height, over, under, not-zero, share-value, minus-value}
+use Rattle.voltage.proofs.Floats.{Height, over, under, heights-le, not-zero, share-value, minus-value}
 
 -- ---- Sizes
 
@@ -61,16 +61,41 @@ volts-exact level h = (of 0 5 (factors .0), of 1 10 (factors .1), of 2 20 (facto
     of : (range k : ℕ) → factor range ≡ k → Exact k level (voltsOf range level)
     of range k e = subst (λ (n : ℕ). Exact n level (voltsOf range level)) e (exactly range level h)
 
-pub volts-height : (range level : ℕ) → level < 65536 → (h : ℕ) × Height (voltsOf range level) h
+-- ---- The order
+
+-- the height of a level's volts, and that it grows with the level
+abbrev pub LevelHeight : ℕ → ℕ → Type 0
+LevelHeight range level = (h : ℕ) × Height (voltsOf range level) h × (h + 32768 * factor range ≡ 655360 + level * factor range)
+
+added : (a b c f : ℕ) → a + b ≡ c → a * f + b * f ≡ c * f
+added a b c f e = sym (add-mul a b f) ∙ ap (λ (n : ℕ). n * f) e
+
+pub volts-height : (range level : ℕ) → level < 65536 → LevelHeight range level
 volts-height range level h = go (ltb level 32768) refl
   where
-    go : (t : Bool) → ltb level 32768 ≡ t → (h : ℕ) × Height (voltsOf range level) h
+    go : (t : Bool) → ltb level 32768 ≡ t → LevelHeight range level
     go true e =
         let n = (32768 - level) * factor range in
-        (655360 - n, under n (below-value range level (ltb-true _ _ e)) (omega (arith, size-small (32768 - level) range (omega arith))))
+        let l = ltb-true _ _ e in
+        let small = size-small (32768 - level) range (omega arith) in (
+          655360 - n,
+          under n (below-value range level l) (omega (arith, small)),
+          omega (arith, small, added (32768 - level) level 32768 (factor range) (omega (arith, l))),
+        )
     go false e =
         let n = (level - 32768) * factor range in
-        (655360 + n, over n (above-value range level h (ltb-false _ _ e)) refl)
+        let l = ltb-false _ _ e in
+        (655360 + n, over n (above-value range level h l) refl, omega (arith, added (level - 32768) 32768 level (factor range) (omega (arith, l))))
+
+-- the order of volts is that of their levels
+pub volts-order : (range a b : ℕ) → a < 65536 → b < 65536 → le (voltsOf range a) (voltsOf range b) ≡ true → a ≤ b
+volts-order range a b k l h =
+    let v = volts-height range a k in
+    let w = volts-height range b l in
+    let times : a * factor range ≤ b * factor range = omega (arith, heights-le (v .1) (w .1) h, v .2, w .2) in
+    le-of-mul-le-mul-right {m = a} {n = b} {k = factor range} times (factor-pos range)
+
+-- ---- Zero
 
 zero-share : share 0 ≡ zeroVolts
 unfolding share round

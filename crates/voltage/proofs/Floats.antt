@@ -1,10 +1,10 @@
 -- Floats that are whole numbers of 65,536ths, and how the kit compares them.
 --   Height x h   x times 65,536, and 655,360 more, is the natural number h: so the order of such floats is that of their heights
---   lt-heights, le-heights, not-zero   `<`, `<=` and `== 0.0` of them
---   share-value, minus-value           what n / 65,536 and its opposite are
+--   lt-heights, le-heights, heights-le, not-zero   `<`, `<=` and `== 0.0` of them
+--   share-value, minus-value                       what n / 65,536 and its opposite are
 use Prim.Native.Nat.{ℕ, _+_, _*_, _^_, _≤_, _<_}
 use mathlib.Core.Path.{_≡_, refl, sym, ap, ap₂, _∙_, subst}
-use mathlib.Core.Bool.{Bool, true, false, not, _&&_, _||_, Bool·beq}
+use mathlib.Core.Bool.{Bool, true, false, not, _&&_, _||_, Bool·beq, true≢false}
 use native.Mathlib.Nat.{mul-comm, mul-assoc, mul-right-comm, mul-pos, add-mul, zero-mul, mul-le-mul-right, mul-lt-mul-of-pos-right, lt-of-lt-of-le}
 use native.Mathlib.Omega.{arith}
 use borrow.Author.Tests.{lt-ltb, le-ltb, ltb-true, ltb-false, eqb-true, eq-eqb, ne-eqb}
@@ -14,7 +14,7 @@ use lib.Pow.{shl-lt}
 use lib.Ieee.{Float, nan, inf, fin, binary32, neg, lt, eq, le, below, up, down}
 use lib.Ieee.Fits.{down-pos}
 use lib.Ieee.Exact.{HasValue, round-exact}
-use Rattle.rules.proofs.Choice.{or-left, or-right, same-test}
+use Rattle.rules.proofs.Choice.{and-both, or-left, or-right, same-test}
 use Rattle.voltage.specs.Volts.{share, zeroVolts}
 
 pub data Height (x : Float) (h : ℕ) : Type 0 where
@@ -121,6 +121,42 @@ le-heights {x} {y} {h} {g} p q l = go (ltb h g) refl
     go : (t : Bool) → ltb h g ≡ t → lt x y || eq x y ≡ true
     go true k = or-left (lt x y) (eq x y) (lt-heights p q ∙ k)
     go false k = or-right (lt x y) (eq x y) (eq-heights p (subst (λ (n : ℕ). Height y n) (omega (arith, ltb-false h g k, l)) q))
+
+-- what is equal is not less
+eq-not-lt : (x y : Float) (s t : Bool) (a b : ℕ) → HasValue x s a 65536 → HasValue y t b 65536 → eq x y ≡ true → lt y x ≡ false
+unfolding eq lt
+eq-not-lt nan y s t a b p q h = absurd p
+eq-not-lt (inf i) y s t a b p q h = absurd p
+eq-not-lt (fin i m e) nan s t a b p q h = absurd q
+eq-not-lt (fin i m e) (inf j) s t a b p q h = absurd q
+eq-not-lt (fin i m e) (fin j n d) s t a b p q h =
+    let A = m * up e * down d in
+    let B = n * up d * down e in
+    let both = and-both (eqb A B) (Bool·beq i j || eqb A 0) h in
+    go i j (eqb-true A B (both .0)) (both .1)
+  where
+    go : (u w : Bool) → m * up e * down d ≡ n * up d * down e → Bool·beq u w || eqb (m * up e * down d) 0 ≡ true
+        → below w (n * up d * down e) u (m * up e * down d) ≡ false
+    go false false f k = le-ltb (n * up d * down e) (m * up e * down d) (omega (arith, f))
+    go true false f k = refl
+    go false true f k = le-ltb 0 (n * up d * down e + m * up e * down d) (omega (arith, f, eqb-true (m * up e * down d) 0 k))
+    go true true f k = le-ltb (m * up e * down d) (n * up d * down e) (omega (arith, f))
+
+-- `<=` tells the heights
+pub heights-le : {x y : Float} {h g : ℕ} → Height x h → Height y g → le x y ≡ true → h ≤ g
+unfolding le
+heights-le {x} {y} {h} {g} p q l = go (ltb g h) refl
+  where
+    value : {z : Float} {f : ℕ} → Height z f → (s : Bool) × (a : ℕ) × HasValue z s a 65536
+    value (over a v e) = (false, a, v)
+    value (under a v e) = (true, a, v)
+
+    go : (t : Bool) → ltb g h ≡ t → h ≤ g
+    go false k = ltb-false g h k
+    go true k =
+        let not-less : lt x y ≡ false = lt-heights p q ∙ le-ltb h g (omega (arith, ltb-true g h k)) in
+        let same : eq x y ≡ true = ap (λ (t : Bool). t || eq x y) (sym not-less) ∙ l in
+        absurd (true≢false (sym (lt-heights q p ∙ k) ∙ eq-not-lt x y _ _ _ _ (value p .2) (value q .2) same))
 
 -- what is more than zero in size is not equal to it
 pub not-zero : (x : Float) (s : Bool) (a : ℕ) → HasValue x s a 65536 → 0 < a → eq x zeroVolts ≡ false

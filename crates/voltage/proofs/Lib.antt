@@ -7,4 +7,8 @@ pub mod Counting
 pub mod Bounds
 pub mod Tables
 pub mod OfLevels
+pub mod Theorems
+pub mod Open
 pub mod Examples
+pub mod FileTables
+pub mod Instances

@@ -50,7 +50,7 @@ session-ranged : (s m : List ℕ) → Ranged (countedIn s m)
 unfolding countedIn
 session-ranged s m = counted-ranged nothingCounted (start m) ((session s) .events) (λ z. absurd (omega (arith, z)))
 
-factor-of : (r : ℕ) → r ≤ 2 → (t : ℕ) × Factor r t × (factor r ≡ t)
+pub factor-of : (r : ℕ) → r ≤ 2 → (t : ℕ) × Factor r t × (factor r ≡ t)
 factor-of zero l = (5, five, factors .0)
 factor-of (suc zero) l = (10, ten, factors .1)
 factor-of (suc (suc zero)) l = (20, twenty, factors .2)

@@ -8,7 +8,7 @@ use native.Mathlib.Nat.{not-suc-le-zero, add-zero, zero-add, add-suc, suc-add}
 use native.Mathlib.Omega.{arith}
 use borrow.Author.Tests.{ne-eqb}
 use lib.Dec.{eqb, eqb·suc-zero}
-use lib.ListN.{getD, replicate, getD-replicate}
+use lib.ListN.{length, getD, replicate, getD-replicate}
 use lib.Ieee.{Float, eq}
 use Rattle.laws.specs.Types.{Event}
 use Rattle.rules.specs.Record.{State, start}
@@ -113,6 +113,10 @@ from-at zero k j w d l = absurd (not-suc-le-zero l)
 from-at (suc n) k zero w d l = ap (channel w) (sym (add-zero k))
 from-at (suc n) k (suc j) w d l = from-at n (suc k) j w d (omega (arith, l)) ∙ ap (channel w) (suc-add k j ∙ sym (add-suc k j))
 
+pub twenty-long : (w : Counted) → length (channelsOf w) ≡ 20
+unfolding channelsFrom
+twenty-long w = refl
+
 pub channel-at : (w : Counted) (k : ℕ) (d : Extremes) → k < 20 → getD (channelsOf w) k d ≡ channel w k
 channel-at w k d l = from-at 20 0 k w d l ∙ ap (channel w) (zero-add k)
 
@@ -172,7 +176,7 @@ abbrev pub voltsIn : ℕ → ℕ → List ℕ → Float
 voltsIn range k levels = voltsOf range (getD levels k 0)
 
 pub volts-high : (range k : ℕ) (x : List ℕ) → Sixteen x → High (voltsIn range k x)
-volts-high range k x h = volts-height range _ (h k)
+volts-high range k x h = let v = volts-height range _ (h k) in (v .0, v .1)
 
 zero-among : (range k : ℕ) → k < 20 → (x : List ℕ) (xs : List (List ℕ)) → FromMidrange (x ∷ xs) → OneOf zeroVolts (map (voltsIn range k) (x ∷ xs))
 zero-among range k l x [] h =

@@ -4,3 +4,6 @@ pub mod Extremes
 pub mod Table
 pub mod Laws
 pub mod Examples
+pub mod FileTables
+pub mod Theorems
+pub mod Instances

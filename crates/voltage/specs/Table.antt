@@ -1,6 +1,7 @@
 -- The table of a session: the refusal, and three numbers for each of the twenty channels.
 --   tableRefusal s m    the refusal number of the session file s over the sample memory m
 --   tableChannels s m   the twenty records
+--   tableMemory s m     the sample memory afterwards
 use Prim.Native.Nat.{ℕ, zero, suc}
 use mathlib.Core.Bool.{cond}
 use mathlib.Core.List.{List, [], _∷_, map}
@@ -8,6 +9,7 @@ use lib.Dec.{eqb}
 use lib.ListN.{getD}
 use lib.Ieee.{Float}
 use Rattle.rules.specs.Record.{start}
+use Rattle.rules.specs.Session.{after}
 use Rattle.files.specs.File.{session, verdict}
 use Rattle.voltage.specs.declared.Extremes.{Extremes}
 use Rattle.voltage.specs.Volts.{voltsOf}
@@ -57,3 +59,7 @@ tableRefusal s m =
 -- 02: "all of them return all zeros"
 unfoldable pub tableChannels : List ℕ → List ℕ → List Extremes
 tableChannels s m = channelsOf (cond (eqb (tableRefusal s m) 0) (countedIn s m) nothingCounted)
+
+-- 02: "The sample memory is as the run left it", also where the session is refused
+abbrev pub tableMemory : List ℕ → List ℕ → List ℕ
+tableMemory s m = (after (start m) ((session s) .events)) .memory

@@ -5,7 +5,7 @@ use mathlib.Core.Bool.{Bool, true, false, not, _&&_, cond, true≢false, false�
 use mathlib.Core.List.{List, [], _∷_}
 use native.Mathlib.Omega.{arith}
 use lib.Dec.{eqb}
-use lib.ListN.{length, getD}
+use lib.ListN.{getD}
 use lib.Seq.{ext-getD}
 use Rattle.rules.specs.declared.Board.{Board}
 use Rattle.files.specs.declared.End.{End}
@@ -17,14 +17,10 @@ use Rattle.voltage.specs.Volts.{voltsOf}
 use Rattle.voltage.specs.Counting.{Counted, nothingCounted, also}
 use Rattle.voltage.specs.Extremes.{picked, lastOf}
 use Rattle.voltage.specs.Table.{channel, channelsFrom, channelsOf, countedIn, powerRefusal, tableRefusal, tableChannels}
-use Rattle.voltage.proofs.Tables.{fault-some, file-refused, file-ended, channels-by, channel-at}
+use Rattle.voltage.proofs.Tables.{fault-some, file-refused, file-ended, channels-by, twenty-long, channel-at}
 use Rattle.volts.specs.Watching.{noChannel, entered, AllEntered, tableOf, watched, closedTable, RecordEntered}
 
 -- ---- One more record
-
-twenty : (w : Counted) → length (channelsOf w) ≡ 20
-unfolding channelsFrom
-twenty w = refl
 
 abbrev what : ℕ → List (List ℕ) → Counted
 what r xs = record { range = r; levels = xs }
@@ -55,7 +51,7 @@ pub record-entered : (fresh : Bool) (b : Board) (ts r : List Extremes)
     → AllEntered fresh ts (b .core .options .range) (b .core .outputs .levels) r
     → RecordEntered fresh b ts (record { refusal = 0; channels = r })
 record-entered fresh b ts r a w e h =
-    let q = ext-getD noChannel r (channelsOf (watched fresh b w)) (a .twenty ∙ sym (twenty (watched fresh b w))) (λ k l. go k (subst (λ (n : ℕ). k < n) (a .twenty) l)) in
+    let q = ext-getD noChannel r (channelsOf (watched fresh b w)) (a .twenty ∙ sym (twenty-long (watched fresh b w))) (λ k l. go k (subst (λ (n : ℕ). k < n) (a .twenty) l)) in
     let z = something fresh b (w .range) (w .levels) h in
     λ i. record { refusal = z i; channels = q i }
   where

@@ -2,14 +2,11 @@
 use Prim.Native.Nat.{ℕ}
 use mathlib.Core.Path.{_≡_}
 use mathlib.Core.List.{List}
-use Rattle.rules.specs.Record.{start}
-use Rattle.rules.specs.Session.{after}
-use Rattle.files.specs.File.{session}
 use Rattle.voltage.specs.declared.Table.{Table}
-use Rattle.voltage.specs.Table.{tableRefusal, tableChannels}
+use Rattle.voltage.specs.Table.{tableRefusal, tableChannels, tableMemory}
 
 pub record Tabled (s m : List ℕ) (r : Table) (m′ : List ℕ) : Type 0 where
   pub refusal : r .refusal ≡ tableRefusal s m
   pub channels : r .channels ≡ tableChannels s m
   -- 02: "The sample memory is as the run left it", also where the session is refused
-  pub memory : m′ ≡ (after (start m) ((session s) .events)) .memory
+  pub memory : m′ ≡ tableMemory s m
