@@ -15,7 +15,7 @@ use Rattle.cuts.specs.Cut.{Cut, sample, chosen, eofOnLast, numbersFrom, 
 use Rattle.cuts.specs.Laws.{Grouped, GoodChoice, NumbersTold, CutGiven, badGroup, partGroup, empty, outside, reversed, beyond, pastEnd, tooLong, done}
 use Rattle.cuts.specs.Examples.{ofSmall, recorded, cutOfFour, fourNumbers}
 use Rattle.cuts.specs.Instances.{cutOfEight}
-use Rattle.cuts.specs.InstancesOfLaws.{ChosenTold, FourMarked, fourEvents, FourSession, GoodCalls, BadCalls, Unwritten, CutReread, Laws-met}
+use Rattle.cuts.specs.InstancesOfLaws.{ChosenTold, FourMarked, fourEvents, FourSession, GoodCalls, BadCalls, Unwritten, CutReread, Cut-laws-met}
 use Rattle.cuts.proofs.Lists.{eof-told}
 use Rattle.cuts.proofs.ChosenNumbers.{numbers-told}
 use Rattle.cuts.proofs.Given.{session-told, bits-inside, grouped-count, cut-exactly, cut-refused}
@@ -200,8 +200,8 @@ four-back out place l =
     (cut-read cutOfFour out place (four-ordered .sixteen) ((four-calls (length out) place) .done .1 l)) in
     record { within = r .within; read = r .read; before = r .before; behind = r .behind }
 
-pub laws-met : Laws-met
-laws-met =
+pub cut-laws-met : Cut-laws-met
+cut-laws-met =
     record {
       four-chosen = four-chosen;
       four-first = (four-at 0 0 (omega arith) (omega arith), four-at 0 1 (omega arith) (omega arith));

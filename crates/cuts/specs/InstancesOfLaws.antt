@@ -87,7 +87,7 @@ pub record CutReread (q : Cut) (es : List Event) (out : List ℕ) (place : ℕ) 
 
 -- ---- All of them
 
-pub record Laws-met : Type 0 where
+pub record Cut-laws-met : Type 0 where
   pub four-chosen : ChosenTold cutOfFour 2 3 2
   pub four-first : (getD (numbers cutOfFour) 0 0 ≡ 0x2001) × (getD (numbers cutOfFour) 1 0 ≡ 0x2003)
   pub four-second : (getD (numbers cutOfFour) 2 0 ≡ 0x3001) × (getD (numbers cutOfFour) 3 0 ≡ 0x3003)

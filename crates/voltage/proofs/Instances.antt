@@ -33,7 +33,7 @@ use Rattle.voltage.specs.Table.{voltsAt, countedIn, tableRefusal}
 use Rattle.voltage.specs.Laws.{Exact, UpAccepted, NoneAccepted, levelsAfter, TableGiven, badFile, noPower, done, OneOf, Bounds, threeOf, OfLevel, Factor, five, ten, twenty}
 use Rattle.voltage.specs.FileTables.{junk, twoPowerUps, oneLevel, backAgain, notPowered}
 use Rattle.voltage.specs.Theorems.{LastPowerUp, levelSince, ChannelVolts, VoltsPlayed}
-use Rattle.voltage.specs.Instances.{boardIn, eventsBefore, eventsLater, voltsOn, VoltsAbove, VoltsBelow, AllZero, powerUpAlone, endsInside, allMidrange, oneMoved, Volts-met, Laws-met}
+use Rattle.voltage.specs.Instances.{boardIn, eventsBefore, eventsLater, voltsOn, VoltsAbove, VoltsBelow, AllZero, powerUpAlone, endsInside, allMidrange, oneMoved, Volts-met, Volt-laws-met}
 use Rattle.voltage.proofs.Open.{files-open, tables-open}
 use Rattle.voltage.proofs.Lists.{Each, each-parted}
 use Rattle.voltage.proofs.Exact.{volts-exact}
@@ -362,8 +362,8 @@ zeros-seen = (refl, refl, refl, refl)
 
 -- ---- The laws
 
-pub laws-met : Laws-met
-laws-met =
+pub volt-laws-met : Volt-laws-met
+volt-laws-met =
     let below = volts-exact 0x7FFF (lit< tt) in
     let above = volts-exact 0x8001 (lit< tt) in
     let low = volts-exact 0 (lit< tt) in

@@ -65,7 +65,7 @@ some-given s m = go ((session s) .end) refl (powered-or-not (start m) ((session 
     go : (x : End) → (session s) .end ≡ x → NoneAccepted (start m) ((session s) .events) ⊎ Powered (start m) ((session s) .events)
         → (n : ℕ) × TableGiven s m n
     go (Refused why p) h r = (faultNumber why, badFile why p h)
-    go File h (inl n) = (18, noPower h n)
+    go File h (inl n) = (_, noPower h n)
     go File h (inr p) = (0, done (p .before) (p .later) (p .settings) h (p .parted) (p .accepted))
 
 pub table-exactly : Table-exactly

@@ -1,6 +1,6 @@
 -- Session files that meet the premises of the theorem and of the laws, and what these say of them in plain numbers.
---   Volts-met   Volts-played, of a file with all that can happen, and of a power-up alone
---   Laws-met    the laws of Laws.antt
+--   Volts-met       Volts-played, of a file with all that can happen, and of a power-up alone
+--   Volt-laws-met   the laws of Laws.antt
 use Prim.Native.Nat.{ℕ}
 use mathlib.Core.Path.{_≡_}
 use mathlib.Core.Logic.{_⊎_}
@@ -108,7 +108,7 @@ allMidrange = replicate 20 0x8000
 abbrev pub oneMoved : List ℕ
 oneMoved = 0x9000 ∷ replicate 19 0x8000
 
-pub record Laws-met : Type 0 where
+pub record Volt-laws-met : Type 0 where
   -- Volts-exact, a step below 8000h and above it, the lowest level and the highest
   pub step-below : VoltsBelow 5 (voltsOf 0 0x7FFF) × VoltsBelow 10 (voltsOf 1 0x7FFF) × VoltsBelow 20 (voltsOf 2 0x7FFF)
   pub step-above : VoltsAbove 5 (voltsOf 0 0x8001) × VoltsAbove 10 (voltsOf 1 0x8001) × VoltsAbove 20 (voltsOf 2 0x8001)
