@@ -6,6 +6,7 @@ pub mod Rests
 pub mod Walk
 pub mod EveryKind
 pub mod Numbers
+pub mod Examples
 pub mod Written
 pub mod Rewritten
 pub mod Joined
@@ -13,3 +14,4 @@ pub mod RowsGiven
 pub mod WritesGiven
 pub mod WriteRead
 pub mod WriteExamples
+pub mod Instances

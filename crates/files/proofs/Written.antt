@@ -1,7 +1,8 @@
 -- What is written is read: the record of an event, a file of events, the row of an event.
 use Prim.Native.Nat.{ℕ, zero, suc, _+_, _*_, _/_, _%_, _^_, _≤_, _<_}
 use mathlib.Core.Path.{_≡_, refl, sym, ap, subst, _∙_}
-use mathlib.Core.List.{List, [], _∷_, _++_, append-assoc}
+use mathlib.Core.List.{List, [], _∷_, _++_, append-assoc, append-nil}
+use native.Mathlib.Nat.{add-zero}
 use native.Mathlib.Omega.{arith}
 use lib.ListN.{length, length-append}
 use lib.Seq.{getD-append-add}
@@ -9,11 +10,12 @@ use Rattle.rules.specs.declared.Event.{Event}
 use Rattle.rules.specs.declared.Event.the-variants.{PowerUp as powerUp, Write as write, Read as read, Signal as signal}
 use Rattle.rules.specs.declared.Signal.the-variants.{Tick as tick, Outside as outside, Trigger as trigger}
 use Rattle.rules.specs.declared.Signal.the-variants.{Passed as passed, Failed as failed, Settled as settled}
-use Rattle.files.specs.declared.End.the-variants.{File}
-use Rattle.files.specs.declared.Item.the-variants.{Got}
+use Rattle.files.specs.declared.End.{End}
+use Rattle.files.specs.declared.End.the-variants.{File, Refused}
+use Rattle.files.specs.declared.Item.the-variants.{Got, Over}
 use Rattle.files.specs.File.{byteAt, wordAt, signalOf, eventOf, eventAt, itemAt, onItem, from, session}
 use Rattle.files.specs.Bytes.{kindOf, fieldsOf, bytesOf, recordsOf, fileOf, Fits, AllFit, none, next}
-use Rattle.files.specs.Laws.{Known, ended, event, Bytes-read, File-read, Row-read}
+use Rattle.files.specs.Laws.{Known, ended, event, Bytes-read, File-read, Refused-events, Row-read}
 use Rattle.files.specs.Laws.{powerUp as knownPowerUp, write as knownWrite, read as knownRead, signal as knownSignal}
 use Rattle.files.proofs.Given.{record-given, item-later}
 
@@ -98,26 +100,50 @@ bytes-read xs ys e h l =
 
 -- ---- A file of events
 
--- behind the bytes of the events before, the walk comes to the rest
-records-read : (es : List Event) → AllFit es → (xs : List ℕ) → 0 < length xs → (f : ℕ) → length (recordsOf es) < f
-    → from f (xs ++ recordsOf es) (length xs) ≡ record { events = es; end = File }
+-- behind the bytes of the events before, the walk comes to these events, and to the end that the file has behind them
+records-read : (es : List Event) → AllFit es → (xs ys : List ℕ) → 0 < length xs → (f : ℕ) → length (recordsOf es) < f → (x : End)
+    → itemAt (xs ++ (recordsOf es ++ ys)) (length xs + length (recordsOf es)) ≡ Over x
+    → from f (xs ++ (recordsOf es ++ ys)) (length xs) ≡ record { events = es; end = x }
 unfolding recordsOf from
-records-read es h xs l zero k = absurd (omega arith)
-records-read [] none xs l (suc f) k =
-    let s : List ℕ = xs ++ [] in
-    let over : length s ≤ length xs = omega (arith, length-append xs []) in
-    ap (onItem (from f s)) (item-later s (length xs) (λ z. omega (arith, z, l)) ∙ record-given s (length xs) _ (ended over))
-records-read (e ∷ es) (next h hs) xs l (suc f) k =
-    let s : List ℕ = xs ++ (bytesOf e ++ recordsOf es) in
-    let rest : from f ((xs ++ bytesOf e) ++ recordsOf es) (length (xs ++ bytesOf e)) ≡ record { events = es; end = File } =
-    records-read es hs (xs ++ bytesOf e) (omega (arith, length-append xs (bytesOf e))) f (omega (arith, length-append (bytesOf e) (recordsOf es))) in
-    let there : from f s (length xs + length (bytesOf e)) ≡ record { events = es; end = File } =
-    sym (λ i. from f (append-assoc xs (bytesOf e) (recordsOf es) i) (length-append xs (bytesOf e) i)) ∙ rest in
-    ap (onItem (from f s)) (bytes-read xs (recordsOf es) e h l) ∙ (λ i. record { events = e ∷ (there i) .events; end = (there i) .end })
+records-read es h xs ys l zero k x o = absurd (omega arith)
+records-read [] none xs ys l (suc f) k x o = ap (onItem (from f (xs ++ ys))) (ap (itemAt (xs ++ ys)) (sym (add-zero (length xs))) ∙ o)
+records-read (e ∷ es) (next h hs) xs ys l (suc f) k x o =
+    let long : length (xs ++ bytesOf e) ≡ length xs + length (bytesOf e) = length-append xs (bytesOf e) in
+    let all : length (bytesOf e ++ recordsOf es) ≡ length (bytesOf e) + length (recordsOf es) = length-append (bytesOf e) (recordsOf es) in
+    let s : List ℕ = xs ++ (bytesOf e ++ recordsOf es ++ ys) in
+    let same : (xs ++ bytesOf e) ++ (recordsOf es ++ ys) ≡ s =
+    append-assoc xs (bytesOf e) (recordsOf es ++ ys) ∙ ap (λ (z : List ℕ). xs ++ z) (sym (append-assoc (bytesOf e) (recordsOf es) ys)) in
+    let place : length (xs ++ bytesOf e) + length (recordsOf es) ≡ length xs + length (bytesOf e ++ recordsOf es) = omega (arith, long, all) in
+    let later : itemAt ((xs ++ bytesOf e) ++ (recordsOf es ++ ys)) (length (xs ++ bytesOf e) + length (recordsOf es)) ≡ Over x =
+    (λ i. itemAt (same i) (place i)) ∙ o in
+    let rest : from f ((xs ++ bytesOf e) ++ (recordsOf es ++ ys)) (length (xs ++ bytesOf e)) ≡ record { events = es; end = x } =
+    records-read es hs (xs ++ bytesOf e) ys (omega (arith, long)) f (omega (arith, all)) x later in
+    let there : from f s (length xs + length (bytesOf e)) ≡ record { events = es; end = x } = sym (λ i. from f (same i) (long i)) ∙ rest in
+    ap (λ (z : List ℕ). onItem (from f s) (itemAt (xs ++ z) (length xs))) (append-assoc (bytesOf e) (recordsOf es) ys)
+    ∙ ap (onItem (from f s)) (bytes-read xs (recordsOf es ++ ys) e h l)
+    ∙ (λ i. record { events = e ∷ (there i) .events; end = (there i) .end })
+
+-- a file of events, and how it ends behind them
+file-ends : (es : List Event) (ys : List ℕ) (x : End) → AllFit es
+    → itemAt (fileOf es ++ ys) (length (fileOf es)) ≡ Over x
+    → session (fileOf es ++ ys) ≡ record { events = es; end = x }
+unfolding session fileOf from itemAt
+file-ends es ys x h o =
+    let place : 1 + length (recordsOf es) ≡ suc (length (recordsOf es)) = omega arith in
+    records-read es h (1 ∷ []) ys (omega arith) (suc (suc (length (recordsOf es ++ ys)))) (omega (arith, length-append (recordsOf es) ys)) x
+    (ap (itemAt (1 ∷ (recordsOf es ++ ys))) place ∙ o)
 
 pub file-read : File-read
-unfolding session fileOf from itemAt
-file-read es h = records-read es h (1 ∷ []) (omega arith) (suc (suc (length (recordsOf es)))) (omega arith)
+unfolding fileOf
+file-read es h =
+    let s : List ℕ = fileOf es ++ [] in
+    let at : ℕ = length (fileOf es) in
+    let over : length s ≤ at = omega (arith, length-append (fileOf es) []) in
+    ap session (sym (append-nil (fileOf es)))
+    ∙ file-ends es [] File h (item-later s at (λ z. omega (arith, z)) ∙ record-given s at _ (ended over))
+
+pub refused-events : Refused-events
+refused-events es ys why p h o = file-ends es ys (Refused why p) h o
 
 -- ---- Rows
 

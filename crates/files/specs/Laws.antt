@@ -5,6 +5,7 @@
 --   File-exactly    a file is refused by a number at a place, or not refused, exactly when its walk comes to where 01 says so
 --   Every-kind      which byte is which field
 --   Bytes-read      the record of an event is read as that event, wherever it stands; File-read: so is a file of events
+--   Refused-events  a file that is refused behind good records has their events
 --   File-written    and what is written of a good file's events is that file
 --   Row-read        the row of an event is read back
 use Prim.Native.Nat.{ℕ, suc, _+_, _≤_, _<_}
@@ -128,6 +129,15 @@ Bytes-read =
 -- a file that is written of events has these events, and no refusal
 abbrev pub File-read : Type 0
 File-read = (es : List Event) → AllFit es → session (fileOf es) ≡ record { events = es; end = File }
+
+-- 01: "A file refusal stops it, and record and memory stay as the earlier records left them": a file that is refused behind the records of
+-- these events has these events
+abbrev pub Refused-events : Type 0
+Refused-events =
+    (es : List Event) (ys : List ℕ) (why : Fault) (p : ℕ)
+    → AllFit es
+    → itemAt (fileOf es ++ ys) (length (fileOf es)) ≡ Over (Refused why p)
+    → session (fileOf es ++ ys) ≡ record { events = es; end = Refused why p }
 
 -- and a file of bytes that is not refused is what is written of its events
 abbrev pub File-written : Type 0

@@ -6,3 +6,5 @@ pub mod Numbers
 pub mod Pieces
 pub mod Writing
 pub mod WritingLaws
+pub mod Examples
+pub mod Instances

@@ -79,6 +79,45 @@ hexTable =
     ∷ record { text = hash ∷ nul ∷ []; bytes = []; stop = bad 1 }
     ∷ record { text = hash ∷ 27 ∷ []; bytes = []; stop = bad 1 }
     ∷ record { text = hash ∷ 127 ∷ []; bytes = []; stop = bad 1 }
+    -- 0123456789, ABCDEF, abcdef: each digit by its worth, as the first and as the second of a byte
+    ∷ record { text = 48 ∷ 49 ∷ 50 ∷ 51 ∷ 52 ∷ 53 ∷ 54 ∷ 55 ∷ 56 ∷ 57 ∷ []; bytes = 0x01 ∷ 0x23 ∷ 0x45 ∷ 0x67 ∷ 0x89 ∷ []; stop = whole }
+    ∷ record { text = 49 ∷ 48 ∷ 51 ∷ 50 ∷ 53 ∷ 52 ∷ 55 ∷ 54 ∷ 57 ∷ 56 ∷ []; bytes = 0x10 ∷ 0x32 ∷ 0x54 ∷ 0x76 ∷ 0x98 ∷ []; stop = whole }
+    ∷ record { text = 65 ∷ 66 ∷ 67 ∷ 68 ∷ 69 ∷ 70 ∷ []; bytes = 0xAB ∷ 0xCD ∷ 0xEF ∷ []; stop = whole }
+    ∷ record { text = 66 ∷ 65 ∷ 68 ∷ 67 ∷ 70 ∷ 69 ∷ []; bytes = 0xBA ∷ 0xDC ∷ 0xFE ∷ []; stop = whole }
+    ∷ record { text = 97 ∷ 98 ∷ 99 ∷ 100 ∷ 101 ∷ 102 ∷ []; bytes = 0xAB ∷ 0xCD ∷ 0xEF ∷ []; stop = whole }
+    ∷ record { text = 98 ∷ 97 ∷ 100 ∷ 99 ∷ 102 ∷ 101 ∷ []; bytes = 0xBA ∷ 0xDC ∷ 0xFE ∷ []; stop = whole }
+    -- 1, 8, 11, 12, 14 and 31: control characters beside the tab, the new line and the carriage return, and the last of them
+    ∷ record { text = 48 ∷ 49 ∷ 1 ∷ 48 ∷ 50 ∷ []; bytes = 1 ∷ []; stop = bad 2 }
+    ∷ record { text = hash ∷ 1 ∷ []; bytes = []; stop = bad 1 }
+    ∷ record { text = 48 ∷ 49 ∷ 8 ∷ 48 ∷ 50 ∷ []; bytes = 1 ∷ []; stop = bad 2 }
+    ∷ record { text = hash ∷ 8 ∷ []; bytes = []; stop = bad 1 }
+    ∷ record { text = 48 ∷ 49 ∷ 11 ∷ 48 ∷ 50 ∷ []; bytes = 1 ∷ []; stop = bad 2 }
+    ∷ record { text = hash ∷ 11 ∷ []; bytes = []; stop = bad 1 }
+    ∷ record { text = 48 ∷ 49 ∷ 12 ∷ 48 ∷ 50 ∷ []; bytes = 1 ∷ []; stop = bad 2 }
+    ∷ record { text = hash ∷ 12 ∷ []; bytes = []; stop = bad 1 }
+    ∷ record { text = 48 ∷ 49 ∷ 14 ∷ 48 ∷ 50 ∷ []; bytes = 1 ∷ []; stop = bad 2 }
+    ∷ record { text = hash ∷ 14 ∷ []; bytes = []; stop = bad 1 }
+    ∷ record { text = 48 ∷ 49 ∷ 31 ∷ 48 ∷ 50 ∷ []; bytes = 1 ∷ []; stop = bad 2 }
+    ∷ record { text = hash ∷ 31 ∷ []; bytes = []; stop = bad 1 }
+    -- a carriage return at the very end
+    ∷ record { text = 48 ∷ 49 ∷ return ∷ []; bytes = 1 ∷ []; stop = bad 2 }
+    ∷ record { text = hash ∷ return ∷ []; bytes = []; stop = bad 1 }
+    -- parts of a byte order mark: EF; EF BB; EF BB, then 01; EF BB BE, then 01; BB BF, then 01
+    ∷ record { text = 239 ∷ []; bytes = []; stop = bad 0 }
+    ∷ record { text = 239 ∷ 187 ∷ []; bytes = []; stop = bad 0 }
+    ∷ record { text = 239 ∷ 187 ∷ 48 ∷ 49 ∷ []; bytes = []; stop = bad 0 }
+    ∷ record { text = 239 ∷ 187 ∷ 190 ∷ 48 ∷ 49 ∷ []; bytes = []; stop = bad 0 }
+    ∷ record { text = 187 ∷ 191 ∷ 48 ∷ 49 ∷ []; bytes = []; stop = bad 0 }
+    -- a byte order mark alone; and only one of two is skipped
+    ∷ record { text = 239 ∷ 187 ∷ 191 ∷ []; bytes = []; stop = whole }
+    ∷ record { text = 239 ∷ 187 ∷ 191 ∷ 239 ∷ 187 ∷ 191 ∷ []; bytes = []; stop = bad 3 }
+    -- a space, a tab and a new line, and no byte
+    ∷ record { text = space ∷ tab ∷ newline ∷ []; bytes = []; stop = whole }
+    -- a digit before a new line and before a comment: a byte's digits stand together
+    ∷ record { text = 48 ∷ newline ∷ 49 ∷ []; bytes = []; stop = bad 0 }
+    ∷ record { text = 48 ∷ hash ∷ 49 ∷ []; bytes = []; stop = bad 0 }
+    -- é between bytes
+    ∷ record { text = 48 ∷ 49 ∷ 195 ∷ 169 ∷ []; bytes = 1 ∷ []; stop = bad 2 }
     ∷ []
 
 pub data AllRead : List HexRow → Type 0 where

@@ -1,3 +1,4 @@
 pub mod Hex
 pub mod HexTable
 pub mod Laws
+pub mod Instances

@@ -6,7 +6,8 @@ use mathlib.Core.Bool.{cond}
 use mathlib.Core.List.{List, [], _∷_}
 use lib.Dec.{ltb}
 use lib.ListN.{length, getD}
-use Rattle.text.specs.Text.{decimal, hex, tooLong, tail}
+use Rattle.text.specs.Ascii.{ascii}
+use Rattle.text.specs.Text.{decimal, hex, tail}
 use Rattle.text.specs.Listing.{listing, text}
 
 -- what a digit of either kind stands for
@@ -81,7 +82,7 @@ Cut-listed =
 
 -- 01: "(at most 65,536 bytes ..)"; "A longer input prints only `TOO LONG`."
 abbrev pub Too-long : Type 0
-Too-long = (s m : List ℕ) → 65536 < length s → text s m ≡ tooLong
+Too-long = (s m : List ℕ) → 65536 < length s → text s m ≡ ascii "TOO LONG\n"
 
 abbrev pub Not-too-long : Type 0
 Not-too-long = (s m : List ℕ) → length s ≤ 65536 → text s m ≡ listing s m

@@ -1,3 +1,8 @@
+pub mod Ascii
 pub mod Text
 pub mod Listing
 pub mod Laws
+pub mod LineLaws
+pub mod Left
+pub mod Examples
+pub mod Instances
