@@ -126,7 +126,7 @@ misfit-read (Signal Failed) h q = omega (arith, ap (λ (r : List ℕ). field r 0
 misfit-read (Signal Settled) h q = omega (arith, ap (λ (r : List ℕ). field r 0) q)
 
 pub writing-met : Writing-met
-unfolding firstOf lengthOf signalOf eventOf recordsOf fileOf sixes eventsIn rowsOf widths fitWidths rowRefusal firstBad writeRefusal
+unfolding firstOf lengthOf signalOf eventOf recordsOf fileOf sixes eventsIn rowsOf widths fitWidths rowRefusal firstBad writeRefusal endPlace
 writing-met =
     record {
       within = scope-read .within;
@@ -148,9 +148,9 @@ writing-met =
       given-21 = write-exactly scopeRows 50 2 21 .1 (tooLong scopeEvents scope-fits refl (lit≤ tt) (lit< tt));
       given-0 = write-exactly scopeRows 51 2 0 .1 (done scopeEvents scope-fits refl (lit≤ tt));
       told-32 = whole-told (tickRow ++ 4 ∷ []) 4 0 (write-exactly _ 4 0 32 .0 refl);
-      told-20 = past-told scopeRows 52 53 (write-exactly scopeRows 52 53 20 .0 refl);
-      told-21 = long-told scopeRows 50 2 (write-exactly scopeRows 50 2 21 .0 refl);
-      told-0 = done-told scopeRows 51 2 (write-exactly scopeRows 51 2 0 .0 refl);
+      told-20 = λ n place h. past-told scopeRows n place (write-exactly scopeRows n place 20 .0 h);
+      told-21 = λ n place h. long-told scopeRows n place (write-exactly scopeRows n place 21 .0 h);
+      told-0 = λ n place h. done-told scopeRows n place (write-exactly scopeRows n place 0 .0 h);
     }
 
 -- ---- Rows

@@ -55,12 +55,12 @@ everyRows =
 
 pub record WritingMet : Type 0 where
   -- Write-read of document 01's session: it ends at byte 51
-  pub within : 51 ≤ 53
+  pub within : endPlace scopeRows 53 2 ≤ 53
   pub read : session (slice 2 51 scopeOutput) ≡ record { events = scopeEvents; end = File }
   pub before : take 2 scopeOutput ≡ 0xEE ∷ 0xEE ∷ []
   pub behind : drop 51 scopeOutput ≡ 0xEE ∷ 0xEE ∷ []
   -- and of no event, into the last byte of an output
-  pub none-within : 3 ≤ 3
+  pub none-within : endPlace [] 3 2 ≤ 3
   pub none-read : session (slice 2 3 (outputAfter [] (replicate 3 0xEE) 2)) ≡ record { events = []; end = File }
   pub none-before : take 2 (outputAfter [] (replicate 3 0xEE) 2) ≡ 0xEE ∷ 0xEE ∷ []
   pub none-behind : drop 3 (outputAfter [] (replicate 3 0xEE) 2) ≡ []
@@ -78,11 +78,11 @@ pub record WritingMet : Type 0 where
   pub given-20 : writeRefusal scopeRows 52 53 ≡ 20
   pub given-21 : writeRefusal scopeRows 50 2 ≡ 21
   pub given-0 : writeRefusal scopeRows 51 2 ≡ 0
-  -- and from the number to what 02 says
+  -- and from the number to what 02 says, on any output
   pub told-32 : (k : ℕ) → length (tickRow ++ 4 ∷ []) ≢ 6 * k
-  pub told-20 : 52 < 53
-  pub told-21 : (es : List Event) × (scopeRows ≡ rowsOf es) × (50 < 2 + length (fileOf es))
-  pub told-0 : (es : List Event) × (scopeRows ≡ rowsOf es) × (2 + length (fileOf es) ≤ 51)
+  pub told-20 : (n place : ℕ) → writeRefusal scopeRows n place ≡ 20 → n < place
+  pub told-21 : (n place : ℕ) → writeRefusal scopeRows n place ≡ 21 → (es : List Event) × (scopeRows ≡ rowsOf es) × (n < place + length (fileOf es))
+  pub told-0 : (n place : ℕ) → writeRefusal scopeRows n place ≡ 0 → (es : List Event) × (scopeRows ≡ rowsOf es) × (place + length (fileOf es) ≤ n)
 
 abbrev pub Writing-met : Type 0
 Writing-met = WritingMet
@@ -147,7 +147,7 @@ pub record ItemsMet : Type 0 where
   pub told-kind : (n : ℕ) → ¬ Known (byteAt tenBehind 10) n
   -- Item-grows
   pub further : 4 + 3 ≤ 8
-  pub inside : 8 ≤ 14
+  pub inside : 8 ≤ length tenBehind
   -- Bytes-read: a write behind one byte and before another
   pub bytes-read : itemAt (0xEE ∷ 0x00 ∷ 0x06 ∷ 0x02 ∷ 0x18 ∷ 0x00 ∷ 0x00 ∷ 0x90 ∷ 0x00 ∷ 0xEE ∷ []) 1 ≡ Got (Write 0x18 0x9000) 9
 
@@ -167,7 +167,7 @@ pub record FilesMet : Type 0 where
   pub given-0 : verdict ((session oneTick) .end) ≡ record { number = 0; place = 0 }
   -- and from the verdict to what 01 says
   pub told-10 : byteAt (0x02 ∷ []) 0 ≢ 1
-  pub told-11 : 5 < 4 + 2
+  pub told-11 : length halfBehind < 4 + 2
   pub told-13 : (n : ℕ) → ¬ Known (byteAt tenBehind 10) n
   -- File-read
   pub file-read : session (0x01 ∷ 0x00 ∷ 0x01 ∷ 0x04 ∷ 0x00 ∷ 0x02 ∷ 0x03 ∷ 0x0C ∷ [])
