@@ -29,6 +29,7 @@ use Rattle.files.specs.WritingLaws.{BadRow, unknownKind, misfit, RowGive
 use Rattle.files.specs.WritingLaws.{Reread, Copied, scopeRows, tickRow, kindOf260, readOf256}
 use Rattle.files.specs.Instances.{scopeEvents, scopeOutput, everyRows, Writing-met, Rows-met}
 use Rattle.files.specs.Instances.{tenBehind, halfBehind, shortRead, cutRead, noLength, oneTick, Items-met, Files-met}
+use Rattle.files.proofs.WriteExamples.{scope-written}
 use Rattle.files.proofs.Lengths.{zero-unknown}
 use Rattle.files.proofs.Given.{item-exactly, item-grows}
 use Rattle.files.proofs.Sessions.{session-refused}
@@ -54,13 +55,9 @@ bytes-below (x ∷ xs) h (suc i) = bytes-below xs ((and-both (ltb x 256) (allByt
 
 -- ---- Writing
 
-scope-done : writeRefusal scopeRows (53) 2 ≡ 0
-unfolding firstOf lengthOf signalOf eventOf recordsOf fileOf sixes eventsIn widths fitWidths rowRefusal firstBad writeRefusal
-scope-done = refl
-
-scope-read : Reread scopeEvents (replicate 53 0xEE) 2 51 scopeOutput
+scope-read : Reread scopeEvents (replicate 52 0xEE) 2 51 scopeOutput
 unfolding firstOf lengthOf signalOf eventOf recordsOf fileOf sixes eventsIn widths fitWidths rowRefusal firstBad writeRefusal endPlace
-scope-read = write-read scopeRows (replicate 53 0xEE) 2 scope-done
+scope-read = write-read scopeRows (replicate 52 0xEE) 2 (scope-written .refusal)
 
 none-read : Reread [] (replicate 3 0xEE) 2 3 (outputAfter [] (replicate 3 0xEE) 2)
 unfolding firstOf lengthOf signalOf eventOf recordsOf fileOf sixes eventsIn widths fitWidths rowRefusal firstBad writeRefusal endPlace

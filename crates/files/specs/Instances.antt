@@ -35,9 +35,9 @@ scopeEvents =
     ∷ Read 0x0C
     ∷ []
 
--- its output on 53 bytes EEh, from byte 2 on: two bytes are left behind it
+-- its output on 52 bytes EEh, from byte 2 on: one byte is left behind it
 abbrev pub scopeOutput : List ℕ
-scopeOutput = outputAfter scopeRows (replicate 53 0xEE) 2
+scopeOutput = outputAfter scopeRows (replicate 52 0xEE) 2
 
 -- the rows of a file with a record of each kind
 abbrev pub everyRows : List ℕ
@@ -55,10 +55,10 @@ everyRows =
 
 pub record WritingMet : Type 0 where
   -- Write-read of document 01's session: it ends at byte 51
-  pub within : endPlace scopeRows 53 2 ≤ 53
+  pub within : endPlace scopeRows 52 2 ≤ 52
   pub read : session (slice 2 51 scopeOutput) ≡ record { events = scopeEvents; end = File }
   pub before : take 2 scopeOutput ≡ 0xEE ∷ 0xEE ∷ []
-  pub behind : drop 51 scopeOutput ≡ 0xEE ∷ 0xEE ∷ []
+  pub behind : drop 51 scopeOutput ≡ 0xEE ∷ []
   -- and of no event, into the last byte of an output
   pub none-within : endPlace [] 3 2 ≤ 3
   pub none-read : session (slice 2 3 (outputAfter [] (replicate 3 0xEE) 2)) ≡ record { events = []; end = File }
