@@ -116,6 +116,12 @@ hexTable =
     -- a digit before a new line and before a comment: a byte's digits stand together
     ∷ record { text = 48 ∷ newline ∷ 49 ∷ []; bytes = []; stop = bad 0 }
     ∷ record { text = 48 ∷ hash ∷ 49 ∷ []; bytes = []; stop = bad 0 }
+    -- 01 02, a tab, 03#x, a carriage return and a new line, 04, all in numbers: the characters named above are these
+    ∷ record {
+      text = 48 ∷ 49 ∷ 32 ∷ 48 ∷ 50 ∷ 9 ∷ 48 ∷ 51 ∷ 35 ∷ 120 ∷ 13 ∷ 10 ∷ 48 ∷ 52 ∷ [];
+      bytes = 1 ∷ 2 ∷ 3 ∷ 4 ∷ [];
+      stop = whole;
+    }
     -- é between bytes
     ∷ record { text = 48 ∷ 49 ∷ 195 ∷ 169 ∷ []; bytes = 1 ∷ []; stop = bad 2 }
     ∷ []
