@@ -27,7 +27,7 @@ use Rattle.text.specs.LineLaws.{cutBehind, LinesListed, InDecimal, LineS
 use Rattle.text.specs.Left.{LeftRefused}
 use Rattle.text.specs.Examples.{emptyListing, refusedBehindLoads}
 use Rattle.text.proofs.Examples.{empty-listed}
-use Rattle.text.specs.Instances.{Numbers-met, twoRefused, Plain, FieldsSaid, LevelsRead, Lines-met, Lengths-met, goodLoads, nineEntries, midLevels, Left-met}
+use Rattle.text.specs.Instances.{Numbers-met, twoRefused, Plain, FieldsSaid, LevelsRead, Lines-met, zeroBytes, Lengths-met, goodLoads, nineEntries, midLevels, Left-met}
 use Rattle.text.proofs.Numbers.{decimal-said, decimal-plain, hex-said, hex-long}
 use Rattle.text.proofs.WholeListing.{too-long, not-too-long}
 use Rattle.text.proofs.LinesListed.{lines-listed}
@@ -136,7 +136,8 @@ lines-met =
 
 -- ---- Lengths
 
-zero-first : (n : ℕ) → byteAt (replicate n 0) 0 ≢ 1
+zero-first : (n : ℕ) → byteAt (zeroBytes n) 0 ≢ 1
+unfolding zeroBytes
 zero-first zero e = omega (arith, e)
 zero-first (suc n) e = omega (arith, e)
 
@@ -149,19 +150,20 @@ unopened-listed : (s m : List ℕ) → length s ≤ 65536 → byteAt s 0 ≢ 1 �
 unfolding listing
 unopened-listed s m short h =
     not-too-long s m short
-    ∙ ap (λ (x : Session). heading ++ body 1 (start m) x) (unopened s h ∙ sym (unopened [] (zero-first 0)))
+    ∙ ap (λ (x : Session). heading ++ body 1 (start m) x) (unopened s h ∙ sym (unopened [] (λ e. omega (arith, e))))
     ∙ sym (not-too-long [] m (lit≤ tt))
     ∙ empty-listed m
 
-zeros-long : (n : ℕ) → length {A = ℕ} (replicate n 0) ≡ n
+zeros-long : (n : ℕ) → length (zeroBytes n) ≡ n
+unfolding zeroBytes
 zeros-long n = length-replicate {0} {A = ℕ} n 0
 
 pub lengths-met : Lengths-met
 lengths-met =
     record {
-      longest = λ m. unopened-listed (replicate 65536 0) m (omega (arith, zeros-long 65536)) (zero-first 65536);
-      longer = λ m. too-long (replicate 65537 0) m (omega (arith, zeros-long 65537));
-      memory = λ m. too-long-memory (replicate 65537 0) m (omega (arith, zeros-long 65537));
+      longest = λ m. unopened-listed (zeroBytes 65536) m (omega (arith, zeros-long 65536)) (zero-first 65536);
+      longer = λ m. too-long (zeroBytes 65537) m (omega (arith, zeros-long 65537));
+      memory = λ m. too-long-memory (zeroBytes 65537) m (omega (arith, zeros-long 65537));
     }
 
 -- ---- What is left

@@ -93,11 +93,15 @@ Lines-met = LinesMet
 
 -- ---- Lengths
 
+-- n bytes 00
+unfoldable pub zeroBytes : ℕ → List ℕ
+zeroBytes n = replicate n 0
+
 -- 65,536 zeros are not too long, and are refused 10 as no bytes are; one more are too long
 pub record LengthsMet : Type 0 where
-  pub longest : (m : List ℕ) → text (replicate 65536 0) m ≡ emptyListing
-  pub longer : (m : List ℕ) → text (replicate 65537 0) m ≡ ascii "TOO LONG\n"
-  pub memory : (m : List ℕ) → memoryAfter (replicate 65537 0) m ≡ m
+  pub longest : (m : List ℕ) → text (zeroBytes 65536) m ≡ emptyListing
+  pub longer : (m : List ℕ) → text (zeroBytes 65537) m ≡ ascii "TOO LONG\n"
+  pub memory : (m : List ℕ) → memoryAfter (zeroBytes 65537) m ≡ m
 
 abbrev pub Lengths-met : Type 0
 Lengths-met = LengthsMet
