@@ -14,9 +14,9 @@ use Rattle.rules.specs.declared.Event.{Event}
 use Rattle.rules.specs.declared.Event.the-variants.{PowerUp, Write, Read, Signal}
 use Rattle.rules.specs.declared.Signal.the-variants.{Tick, Outside, Trigger, Passed, Failed, Settled}
 use Rattle.rules.proofs.Choice.{and-both}
-use Rattle.files.specs.declared.Fault.the-variants.{Version, Cut, Length, Kind}
-use Rattle.files.specs.declared.End.the-variants.{File, Refused}
-use Rattle.files.specs.declared.Item.the-variants.{Got, Over}
+use Rattle.files.specs.declared.Fault.the-variants.{Version, Cut, Kind}
+use Rattle.files.specs.declared.End.the-variants.{Refused}
+use Rattle.files.specs.declared.Item.the-variants.{Over}
 use Rattle.files.specs.File.{faultNumber, byteAt, lengthOf, signalOf, eventOf, eventAt, wholeRecord, recordAt, itemAt, from, session}
 use Rattle.files.specs.Bytes.{recordsOf, fileOf, Fits, AllFit, none, next}
 use Rattle.files.specs.Row.{rowOf, field}

@@ -1,6 +1,5 @@
 -- Bytes written out are read back, by the law (specs/Instances).
-use Prim.Native.Nat.{ℕ}
-use mathlib.Core.List.{List, [], _∷_}
+use mathlib.Core.List.{[], _∷_}
 use lib.Dec.{lit<}
 use Rattle.notation.specs.Laws.{hexDigit, spelt, none, next}
 use Rattle.notation.specs.Instances.{Spelt-met}

@@ -1,7 +1,6 @@
 -- The law of hex text met: bytes written out, in every digit.
-use Prim.Native.Nat.{ℕ}
 use mathlib.Core.Path.{_≡_}
-use mathlib.Core.List.{List, [], _∷_}
+use mathlib.Core.List.{[], _∷_}
 use Rattle.notation.specs.Hex.{whole, hexReading}
 
 pub record SpeltMet : Type 0 where

@@ -10,13 +10,11 @@ use Rattle.rules.specs.Session.{outcomes, after}
 use Rattle.rules.proofs.Choice.{cond-true, cond-false}
 use Rattle.files.specs.declared.Fault.the-variants.{Version, Cut, Length, Kind}
 use Rattle.files.specs.declared.Fault.{Fault}
-use Rattle.files.specs.declared.End.{End}
 use Rattle.files.specs.declared.End.the-variants.{File, Refused}
 use Rattle.files.specs.Bytes.{fileOf}
 use Rattle.files.specs.File.{faultNumber, Session, session}
 use Rattle.files.proofs.Written.{file-read, refused-events}
-use Rattle.text.specs.Ascii.{ascii}
-use Rattle.text.specs.Text.{heading, decimal, fileLine, levelsLine, tail}
+use Rattle.text.specs.Text.{heading, fileLine, levelsLine, tail}
 use Rattle.text.specs.Listing.{lines, levelsOf, ending, body, listing, text, memoryAfter}
 use Rattle.text.specs.Left.{Refused-left, Too-long-memory}
 use Rattle.text.proofs.WholeListing.{not-too-long}

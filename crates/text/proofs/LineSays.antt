@@ -6,7 +6,6 @@ use native.Mathlib.Omega.{arith}
 use lib.Dec.{ltb}
 use lib.ListN.{length, getD, length-append}
 use Rattle.rules.proofs.Choice.{either}
-use Rattle.rules.specs.declared.Answer.{Answer}
 use Rattle.text.specs.Text.{space, newline, levelsHead, decimal, decimalIn, hex, line, levelsIn, levelsLine}
 use Rattle.text.specs.LineLaws.{cutBehind, InDecimal, Line-says, LevelsSaid, last, level, Levels-say}
 use Rattle.text.proofs.Numbers.{decimal-said, decimal-plain, hex-said, hex-long}

@@ -6,9 +6,9 @@ use mathlib.Core.Path.{_≡_}
 use mathlib.Core.List.{List, [], _∷_, _++_}
 use lib.ListN.{length, getD, replicate}
 use Rattle.text.specs.Ascii.{ascii}
-use Rattle.text.specs.Text.{space, decimal, hex}
+use Rattle.text.specs.Text.{space, hex}
 use Rattle.text.specs.Listing.{text, memoryAfter}
-use Rattle.text.specs.Laws.{said, scope}
+use Rattle.text.specs.Laws.{said}
 use Rattle.text.specs.LineLaws.{cutBehind, linesIn, lineIn}
 use Rattle.text.specs.Examples.{emptyListing, refusedBehindLoads}
 
