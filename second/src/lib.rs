@@ -4,7 +4,7 @@
 //! requested") it has requests 2026-01 to 2026-07. Of these 2026-04 changes no
 //! behaviour ("No answer changes."); the search in `clock.rs` is the one that it
 //! asks for. The model is written to be read beside the documents: each rule
-//! stands under a comment that quotes its sentence. DECISIONS.md lists the places
+//! stands under a comment that quotes its sentence. READINGS.md lists the places
 //! where a sentence had to be interpreted. `#[inline]` marks what every event of
 //! a run or of a written session goes through, and `#[inline(always)]` what would
 //! else be a call, since `list`, `volts` and `smallest_size` all run it.

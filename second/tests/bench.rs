@@ -679,7 +679,7 @@ fn triggers_and_bursts() {
     assert!(b.record.burst && !b.record.software);
     b.write(0x0C, CLEAR);
     assert!(!b.record.burst);
-    // A burst whose buffer goes empty without EOF goes on (DECISIONS.md, 1).
+    // A burst whose buffer goes empty without EOF goes on (READINGS.md, 1).
     b.write(0x0C, ENABLED);
     b.load(1);
     b.go(Event::Trigger);

@@ -11,7 +11,7 @@ use Rattle.rules.specs.Record.{stateOf}
 use Rattle.rules.specs.Told.{Told}
 use Rattle.board.specs.Promises.{Stepped}
 use Rattle.board.specs.declared.Reply.{Reply}
-use Rattle.files.specs.Row.{eventOfRow}
+use Rattle.file_rules.specs.Row.{eventOfRow}
 use Rattle.layout.specs.Layout.{boardAt, boardRow, toldOf}
 use Rattle.rows.specs.Promises.{rowWritten}
 use Rattle.bridge.specs.Types.{Board, Event}

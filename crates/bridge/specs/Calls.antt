@@ -1,4 +1,4 @@
--- A call: a record as a row of 55 numbers, the sample memory, an event as a row of 6 (that of files/specs/Row.antt), and room for an
+-- A call: a record as a row of 55 numbers, the sample memory, an event as a row of 6 (that of file_rules/specs/Row.antt), and room for an
 -- answer of 4.
 -- A rate question: a record as a row of 55 numbers, and room for 3 figures.
 use Prim.Native.Nat.{ℕ}
@@ -10,7 +10,7 @@ use lib.ListN.{length}
 use Rattle.rules.specs.Step.{Outcome, step}
 use Rattle.rules.specs.Rates.{rates}
 use Rattle.rules.specs.Record.{stateOf}
-use Rattle.files.specs.Row.{eventOfRow}
+use Rattle.file_rules.specs.Row.{eventOfRow}
 use Rattle.layout.specs.Layout.{at, boardAt, boardRow}
 use Rattle.bridge.specs.Types.{Answer, Figures}
 

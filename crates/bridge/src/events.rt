@@ -1,8 +1,8 @@
 // The event that a row of six numbers says.
 ghost use mathlib.Core.Path.{_≡_};
 ghost use lib.ListN.{length};
-ghost use Rattle.files.specs.File.{eventOf};
-ghost use Rattle.files.specs.Row.{eventOfRow};
+ghost use Rattle.file_rules.specs.File.{eventOf};
+ghost use Rattle.file_rules.specs.Row.{eventOfRow};
 use kinds::signal_of;
 use rules::Event;
 use rules::Settings;

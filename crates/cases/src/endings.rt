@@ -1,6 +1,6 @@
 // How a session file ends.
 use crate::print;
-use files::End;
+use file_rules::End;
 use kinds::fault_number;
 
 fn ended(end: End) {

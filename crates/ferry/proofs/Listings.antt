@@ -7,7 +7,7 @@ use lib.Dec.{ltb}
 use lib.ListN.{length}
 use Rattle.listing.specs.declared.Listed.{Listed}
 use Rattle.listing.specs.declared.Listed.the-variants.{Text, Short}
-use Rattle.text.specs.Listing.{text, room}
+use Rattle.listing_rules.specs.Listing.{text, room}
 use Rattle.listing.specs.Promises.{Lists}
 use Rattle.ferry.specs.Promises.{ListCalled}
 

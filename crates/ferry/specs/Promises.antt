@@ -6,7 +6,7 @@ use mathlib.Core.List.{List}
 use lib.Dec.{ltb}
 use lib.ListN.{length}
 use lib.Seq.{sets}
-use Rattle.text.specs.Listing.{text, memoryAfter, room}
+use Rattle.listing_rules.specs.Listing.{text, memoryAfter, room}
 
 -- the first where the output has room for the listing of the file s, else the second
 abbrev pub withRoom : {A : Type 0} → List ℕ → List ℕ → A → A → A

@@ -2,7 +2,7 @@
 use Prim.Native.Nat.{ℕ}
 use mathlib.Core.Path.{_≡_}
 use mathlib.Core.List.{List}
-use Rattle.sizing.specs.Smallest.{sizeRefusal, sizeCode, sizeMemory}
+use Rattle.size_rules.specs.Smallest.{sizeRefusal, sizeCode, sizeMemory}
 
 -- nergutsai_smallest_size(s, m, code) = n, and m and code are m′ and code′ afterwards
 pub record SizeCalled (s m : List ℕ) (n : ℕ) (m′ : List ℕ) (code′ : ℕ) : Type 0 where

@@ -1,7 +1,7 @@
 // The smallest size that plays a session, for hosts in Rust and C. A slice is a pointer and then a length on their side, and `code` a
 // pointer (hosts/).
 ghost use Rattle.gauge.specs.Promises.{SizeCalled};
-use smallest::smallest_size;
+use sizes::smallest_size;
 
 // The smallest size of a session file over the sample memory. Answers the refusal number, 0 where a code is named; `code` is that code,
 // and 0 where it was refused.

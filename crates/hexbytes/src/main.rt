@@ -1,4 +1,4 @@
-// Reads hex text from standard input to its end and writes the bytes that it says: the rest is crate `hextext`. On standard error it
+// Reads hex text from standard input to its end and writes the bytes that it says: the rest is crate `hex`. On standard error it
 // says how many bytes they are, or, where it writes none, what is wrong.
 ghost use mathlib.Core.Path.{_≡_};
 ghost use lib.ListN.{length};
@@ -8,8 +8,8 @@ use console::within;
 use console::write_output;
 use faults::say;
 use faults::say_fault;
-use hextext::Decoded;
-use hextext::decode;
+use hex::Decoded;
+use hex::decode;
 
 mod faults;
 

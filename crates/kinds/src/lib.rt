@@ -2,10 +2,10 @@
 // kind; and the numbers of a file's faults.
 // Every call takes every input, and tells what a rule says (`Told` of rules/specs/Told.antt).
 ghost use Rattle.rules.specs.Told.{Told};
-ghost use Rattle.files.specs.Bytes.{signalKind};
-ghost use Rattle.files.specs.File.{lengthOf, signalOf, faultNumber};
-ghost use Rattle.files.specs.Row.{rowOf};
-use files::Fault;
+ghost use Rattle.file_rules.specs.Bytes.{signalKind};
+ghost use Rattle.file_rules.specs.File.{lengthOf, signalOf, faultNumber};
+ghost use Rattle.file_rules.specs.Row.{rowOf};
+use file_rules::Fault;
 use rules::Event;
 use rules::Signal;
 

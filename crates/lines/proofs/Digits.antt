@@ -3,8 +3,8 @@ use Prim.Native.Nat.{ℕ, suc, _*_, _-_, _/_, _%_, _<_, _≤_}
 use mathlib.Core.Path.{_≡_}
 use mathlib.Core.List.{List, [], _∷_, _++_, append-assoc}
 use native.Mathlib.Omega.{arith}
-use Rattle.text.specs.Text.{digit, decimalIn}
-use Rattle.text.proofs.Numbers.{decimal-one, decimal-next}
+use Rattle.listing_rules.specs.Text.{digit, decimalIn}
+use Rattle.listing_rules.proofs.Numbers.{decimal-one, decimal-next}
 
 -- the two digits of a number below 100
 abbrev pair : ℕ → List ℕ

@@ -1,7 +1,7 @@
 // Lines of a listing as bytes in a lent output, each from a place on; the answer is the place after it. Every call takes every input:
 // where the output has no room for the longest such line, nothing is written and the place comes back.
 ghost use lib.ListN.{length};
-ghost use Rattle.text.specs.Text.{line, tail};
+ghost use Rattle.listing_rules.specs.Text.{line, tail};
 ghost use Rattle.lines.specs.Promises.{Printed};
 use crate::pieces::put_bytes;
 use crate::whole::has_room;

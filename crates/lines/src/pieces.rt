@@ -3,8 +3,8 @@ ghost use Prim.Native.Nat.{_+_, _/_, _%_, _<_, _≤_};
 ghost use mathlib.Core.Path.{_≡_};
 ghost use mathlib.Core.List.{[], _∷_};
 ghost use lib.ListN.{length};
-ghost use Rattle.text.specs.Text.{digit, capital, hex, decimalIn, decimal};
-ghost use Rattle.files.specs.Pieces.{Piece};
+ghost use Rattle.listing_rules.specs.Text.{digit, capital, hex, decimalIn, decimal};
+ghost use Rattle.file_rules.specs.Pieces.{Piece};
 
 pub(crate) fn put_byte(out: &mut [u8], at: usize, b: u8) -> usize
     requires { ⌜ at < length (now out) ⌝ }

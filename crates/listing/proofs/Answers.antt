@@ -10,10 +10,10 @@ use Rattle.rules.specs.Record.{start}
 use Rattle.rules.specs.Session.{after}
 use Rattle.rules.proofs.Choice.{cond-true, cond-false}
 use Rattle.listing.specs.declared.Listed.the-variants.{Text, Short}
-use Rattle.files.specs.File.{session}
-use Rattle.text.specs.Text.{tooLong}
-use Rattle.files.specs.Pieces.{Piece}
-use Rattle.text.specs.Listing.{longest, listing, text, memoryAfter, room}
+use Rattle.file_rules.specs.File.{session}
+use Rattle.listing_rules.specs.Text.{tooLong}
+use Rattle.file_rules.specs.Pieces.{Piece}
+use Rattle.listing_rules.specs.Listing.{longest, listing, text, memoryAfter, room}
 use Rattle.listing.specs.Promises.{Lists}
 
 module _ (s m out : List ℕ) where

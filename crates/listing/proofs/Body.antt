@@ -8,13 +8,13 @@ use Rattle.rules.specs.declared.Event.{Event}
 use Rattle.rules.specs.Record.{State}
 use Rattle.rules.specs.Step.{step}
 use Rattle.rules.specs.Session.{outcomes, after}
-use Rattle.files.specs.declared.End.{End}
-use Rattle.files.specs.declared.End.the-variants.{File, Refused}
-use Rattle.files.specs.declared.Item.the-variants.{Over}
-use Rattle.files.specs.File.{Session, verdict}
-use Rattle.files.proofs.Sessions.{PlaceInFile}
-use Rattle.text.specs.Text.{line}
-use Rattle.text.specs.Listing.{lines, levelsOf, ending, body}
+use Rattle.file_rules.specs.declared.End.{End}
+use Rattle.file_rules.specs.declared.End.the-variants.{File, Refused}
+use Rattle.file_rules.specs.declared.Item.the-variants.{Over}
+use Rattle.file_rules.specs.File.{Session, verdict}
+use Rattle.file_rules.proofs.Sessions.{PlaceInFile}
+use Rattle.listing_rules.specs.Text.{line}
+use Rattle.listing_rules.specs.Listing.{lines, levelsOf, ending, body}
 
 module _ (k : ℕ) (st : State) where
   pub body-event : (e : Event) (y : Session)

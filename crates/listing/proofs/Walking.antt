@@ -11,21 +11,21 @@ use Rattle.rules.specs.declared.Board.{Board}
 use Rattle.rules.specs.Record.{State, stateOf}
 use Rattle.rules.specs.Step.{step}
 use Rattle.rules.specs.Session.{after}
-use Rattle.files.specs.declared.End.{End}
-use Rattle.files.specs.File.{session}
-use Rattle.files.proofs.Given.{item-grows}
+use Rattle.file_rules.specs.declared.End.{End}
+use Rattle.file_rules.specs.File.{session}
+use Rattle.file_rules.proofs.Given.{item-grows}
 use Rattle.board.specs.declared.Reply.{Reply}
 use Rattle.board.specs.Promises.{Stepped}
-use Rattle.text.specs.Text.{line}
-use Rattle.text.proofs.Lengths.{line-length}
+use Rattle.listing_rules.specs.Text.{line}
+use Rattle.listing_rules.proofs.Lengths.{line-length}
 use Rattle.run.specs.declared.Cursor.{Cursor}
 use Rattle.run.specs.declared.Ahead.the-variants.{Found, Over}
 use Rattle.run.specs.Run.{found}
 use Rattle.run.specs.Way.{Passes}
 use Rattle.run.proofs.Ways.{event-stood, way-start, way-on, way-over}
-use Rattle.files.specs.Pieces.{Piece}
-use Rattle.files.proofs.Joined.{then, piece-length}
-use Rattle.text.specs.Listing.{levelsOf, ending}
+use Rattle.file_rules.specs.Pieces.{Piece}
+use Rattle.file_rules.proofs.Joined.{then, piece-length}
+use Rattle.listing_rules.specs.Listing.{levelsOf, ending}
 use Rattle.listing.specs.Shortcuts.{InRun}
 use Rattle.listing.specs.Draft.{Draft, draft, Page, Fills, Fair, Walked}
 use Rattle.listing.proofs.Body.{body-event, body-end}

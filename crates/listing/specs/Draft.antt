@@ -12,18 +12,18 @@ use Rattle.rules.specs.declared.Ring.{Ring}
 use Rattle.rules.specs.declared.Board.{Board}
 use Rattle.rules.specs.Record.{State, stateOf}
 use Rattle.rules.specs.Session.{after}
-use Rattle.files.specs.File.{Session}
+use Rattle.file_rules.specs.File.{Session}
 use Rattle.board.specs.Promises.{Stepped}
-use Rattle.text.specs.Text.{line}
+use Rattle.listing_rules.specs.Text.{line}
 use Rattle.run.specs.declared.Cursor.{Cursor}
 use Rattle.run.specs.declared.Ahead.{Ahead}
 use Rattle.run.specs.declared.Ahead.the-variants.{Found}
 use Rattle.run.specs.Run.{found}
 use Rattle.run.specs.Way.{Way}
-use Rattle.files.specs.Pieces.{Piece}
+use Rattle.file_rules.specs.Pieces.{Piece}
 use Rattle.listing.specs.declared.hurry.Hastened.{Hastened}
 use Rattle.listing.specs.declared.hurry.Hurried.{Hurried}
-use Rattle.text.specs.Listing.{body}
+use Rattle.listing_rules.specs.Listing.{body}
 use Rattle.listing.specs.Shortcuts.{boardAs, boardWith, replyOf, InRun}
 
 -- the output so far and the place in it, the number of the next line, the board and its memory

@@ -8,7 +8,7 @@ use lib.ListN.{length}
 use lib.Seq.{sets}
 use Rattle.listing.specs.declared.Listed.{Listed}
 use Rattle.listing.specs.declared.Listed.the-variants.{Text, Short}
-use Rattle.text.specs.Listing.{text, memoryAfter, room}
+use Rattle.listing_rules.specs.Listing.{text, memoryAfter, room}
 
 pub record Lists (s m out : List ℕ) (r : Listed) (m′ out′ : List ℕ) : Type 0 where
   pub answer : r ≡ cond (ltb (length out) (room (length s))) (Short (room (length s))) (Text (length (text s m)))

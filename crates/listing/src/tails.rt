@@ -1,10 +1,10 @@
 // How a listing ends.
 ghost use Prim.Native.Nat.{_+_, _^_, _<_, _≤_};
 ghost use lib.ListN.{length};
-ghost use Rattle.files.specs.File.{verdict};
-ghost use Rattle.files.specs.Pieces.{Piece};
-ghost use Rattle.text.specs.Listing.{ending};
-use files::End;
+ghost use Rattle.file_rules.specs.File.{verdict};
+ghost use Rattle.file_rules.specs.Pieces.{Piece};
+ghost use Rattle.listing_rules.specs.Listing.{ending};
+use file_rules::End;
 use kinds::fault_number;
 use lines::put_tail;
 

@@ -3,8 +3,8 @@ use Prim.Native.Nat.{ℕ}
 use mathlib.Core.Path.{_≡_}
 use mathlib.Core.List.{List}
 use lib.ListN.{length}
-use Rattle.files.specs.Writing.{writeRefusal, endPlace, outputAfter}
-use Rattle.cuts.specs.Cut.{Cut, cutRefusal, cutEnd, cutOutput}
+use Rattle.file_rules.specs.Writing.{writeRefusal, endPlace, outputAfter}
+use Rattle.cut_rules.specs.Cut.{Cut, cutRefusal, cutEnd, cutOutput}
 
 -- nergutsai_write(xs, out, place, end) = n, and out and end are out′ and end′ afterwards
 pub record WriteCalled (xs out : List ℕ) (place n : ℕ) (out′ : List ℕ) (end′ : ℕ) : Type 0 where

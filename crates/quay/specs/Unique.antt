@@ -2,7 +2,7 @@
 use Prim.Native.Nat.{ℕ}
 use mathlib.Core.Path.{_≡_}
 use mathlib.Core.List.{List}
-use Rattle.cuts.specs.Cut.{Cut}
+use Rattle.cut_rules.specs.Cut.{Cut}
 use Rattle.quay.specs.Promises.{WriteCalled, CutCalled}
 
 abbrev pub WriteCalled-one : Type 0

@@ -1,10 +1,10 @@
 // The session reader: the lent file bytes and the place of the next record. `item` takes the struct apart and calls the covered
 // function; `read_at` stands above, with plain parameters, and is what `next` of crate `run` calls for every record.
 ghost use Rattle.rules.specs.ToldInNumbers.{ToldInNumbers};
-ghost use Rattle.files.specs.File.{itemAt};
-ghost use Rattle.files.specs.Numbers.{itemNumbers};
+ghost use Rattle.file_rules.specs.File.{itemAt};
+ghost use Rattle.file_rules.specs.Numbers.{itemNumbers};
 ghost use Rattle.reader.specs.Promises.{Opened};
-use files::Item;
+use file_rules::Item;
 use session::item_at;
 
 pub struct Reader<'a> {

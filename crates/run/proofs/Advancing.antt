@@ -7,7 +7,7 @@ use Rattle.rules.specs.declared.Answer.{Answer}
 use Rattle.rules.specs.declared.Event.{Event}
 use Rattle.rules.specs.Record.{State}
 use Rattle.rules.specs.Step.{step}
-use Rattle.files.specs.declared.End.{End}
+use Rattle.file_rules.specs.declared.End.{End}
 use Rattle.run.specs.declared.Cursor.{Cursor}
 use Rattle.run.specs.declared.Ahead.{Ahead}
 use Rattle.run.specs.declared.Ahead.the-variants.{Found, Over}

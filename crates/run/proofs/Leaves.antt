@@ -5,8 +5,8 @@ use Rattle.rules.specs.declared.Event.{Event}
 use Rattle.rules.specs.Record.{State}
 use Rattle.rules.specs.Step.{step}
 use Rattle.rules.specs.Session.{after}
-use Rattle.files.specs.declared.End.{End}
-use Rattle.files.specs.File.{Session}
+use Rattle.file_rules.specs.declared.End.{End}
+use Rattle.file_rules.specs.File.{Session}
 use Rattle.run.specs.Way.{Passes}
 
 pub record Finish : Type 0 where

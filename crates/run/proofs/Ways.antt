@@ -1,4 +1,4 @@
--- The law of every loop over a session (specs/Way.antt), from what `Rest` of crate `files` says of the session from a place on.
+-- The law of every loop over a session (specs/Way.antt), from what `Rest` of crate `file_rules` says of the session from a place on.
 use Prim.Native.Nat.{ℕ}
 use mathlib.Core.Path.{_≡_, refl, sym, ap, subst, _∙_}
 use mathlib.Core.Bool.{Bool, true, false, true≢false, false≢true}
@@ -7,13 +7,13 @@ use native.Mathlib.Omega.{arith}
 use Rattle.rules.specs.declared.Event.{Event}
 use Rattle.rules.specs.declared.Signal.the-variants.{Tick}
 use Rattle.rules.specs.declared.Event.the-variants.{Signal as signal}
-use Rattle.files.specs.declared.End.{End}
-use Rattle.files.specs.declared.End.the-variants.{File}
-use Rattle.files.specs.declared.Item.{Item}
-use Rattle.files.specs.declared.Item.the-variants.{Got, Over as over}
-use Rattle.files.specs.File.{itemAt, Session}
-use Rattle.files.proofs.Given.{item-grows}
-use Rattle.files.proofs.Rests.{rest-start, rest-got, rest-over}
+use Rattle.file_rules.specs.declared.End.{End}
+use Rattle.file_rules.specs.declared.End.the-variants.{File}
+use Rattle.file_rules.specs.declared.Item.{Item}
+use Rattle.file_rules.specs.declared.Item.the-variants.{Got, Over as over}
+use Rattle.file_rules.specs.File.{itemAt, Session}
+use Rattle.file_rules.proofs.Given.{item-grows}
+use Rattle.file_rules.proofs.Rests.{rest-start, rest-got, rest-over}
 use Rattle.run.specs.declared.Cursor.{Cursor}
 use Rattle.run.specs.declared.Ahead.{Ahead}
 use Rattle.run.specs.declared.Ahead.the-variants.{Found, Over}

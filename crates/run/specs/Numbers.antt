@@ -8,11 +8,11 @@ use mathlib.Core.Path.{_≡_}
 use mathlib.Core.List.{List, [], _∷_}
 use Rattle.rules.specs.declared.Signal.the-variants.{Settled}
 use Rattle.rules.specs.declared.Event.the-variants.{Signal}
-use Rattle.files.specs.declared.Fault.the-variants.{Length}
-use Rattle.files.specs.declared.End.the-variants.{Refused}
-use Rattle.files.specs.declared.Item.the-variants.{Got, Over as over}
-use Rattle.files.specs.File.{verdict}
-use Rattle.files.specs.Numbers.{ItemNumbers, itemNumbers}
+use Rattle.file_rules.specs.declared.Fault.the-variants.{Length}
+use Rattle.file_rules.specs.declared.End.the-variants.{Refused}
+use Rattle.file_rules.specs.declared.Item.the-variants.{Got, Over as over}
+use Rattle.file_rules.specs.File.{verdict}
+use Rattle.file_rules.specs.Numbers.{ItemNumbers, itemNumbers}
 use Rattle.run.specs.declared.Ahead.{Ahead}
 use Rattle.run.specs.declared.Ahead.the-variants.{Found, Over}
 use Rattle.run.specs.declared.Progress.{Progress}

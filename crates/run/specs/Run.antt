@@ -5,9 +5,9 @@ use mathlib.Core.List.{List}
 use Prim.Native.Nat.{ℕ}
 use Rattle.rules.specs.Record.{State}
 use Rattle.rules.specs.Step.{step}
-use Rattle.files.specs.declared.Item.{Item}
-use Rattle.files.specs.declared.Item.the-variants.{Got, Over as over}
-use Rattle.files.specs.File.{itemAt}
+use Rattle.file_rules.specs.declared.Item.{Item}
+use Rattle.file_rules.specs.declared.Item.the-variants.{Got, Over as over}
+use Rattle.file_rules.specs.File.{itemAt}
 use Rattle.run.specs.declared.Cursor.{Cursor}
 use Rattle.run.specs.declared.Ahead.{Ahead}
 use Rattle.run.specs.declared.Ahead.the-variants.{Found, Over}

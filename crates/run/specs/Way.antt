@@ -6,8 +6,8 @@ use mathlib.Core.Path.{_≡_}
 use mathlib.Core.List.{List, [], _∷_}
 use lib.ListN.{length}
 use Rattle.rules.specs.declared.Event.{Event}
-use Rattle.files.specs.declared.End.{End}
-use Rattle.files.specs.File.{Session, session, Rest}
+use Rattle.file_rules.specs.declared.End.{End}
+use Rattle.file_rules.specs.File.{Session, session, Rest}
 use Rattle.run.specs.declared.Cursor.{Cursor}
 use Rattle.run.specs.declared.Ahead.the-variants.{Found, Over}
 use Rattle.run.specs.Run.{found}

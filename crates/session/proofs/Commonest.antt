@@ -8,11 +8,11 @@ use lib.ListN.{length}
 use Rattle.rules.specs.declared.Signal.the-variants.{Tick}
 use Rattle.rules.specs.declared.Event.{Event}
 use Rattle.rules.specs.declared.Event.the-variants.{Write, Signal as signal}
-use Rattle.files.specs.declared.Item.the-variants.{Got}
-use Rattle.files.specs.File.{byteAt, wordAt, quadAt, signalOf, eventAt, itemAt, eventOf}
-use Rattle.files.specs.Laws.{Known, Whole, event, later}
-use Rattle.files.specs.Laws.{write as writeKnown, signal as signalKnown}
-use Rattle.files.proofs.Given.{item-exactly}
+use Rattle.file_rules.specs.declared.Item.the-variants.{Got}
+use Rattle.file_rules.specs.File.{byteAt, wordAt, quadAt, signalOf, eventAt, itemAt, eventOf}
+use Rattle.file_rules.specs.Laws.{Known, Whole, event, later}
+use Rattle.file_rules.specs.Laws.{write as writeKnown, signal as signalKnown}
+use Rattle.file_rules.proofs.Given.{item-exactly}
 
 -- a whole record of a known kind, from place 1 on, is the event that its bytes say
 got-at : (s : List ℕ) (at : ℕ) → at ≢ 0 → Whole s at → Known (byteAt s (at + 2)) (wordAt s at)

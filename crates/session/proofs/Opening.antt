@@ -8,10 +8,10 @@ use borrow.Author.Tests.{eqb-true, ne-eqb, not-true, not-false}
 use lib.Dec.{eqb}
 use lib.ListN.{length}
 use Rattle.rules.proofs.Choice.{and-both, cond-true, cond-false}
-use Rattle.files.specs.declared.Fault.the-variants.{Version}
-use Rattle.files.specs.declared.End.the-variants.{Refused}
-use Rattle.files.specs.declared.Item.the-variants.{Over}
-use Rattle.files.specs.File.{byteAt, recordAt, itemAt}
+use Rattle.file_rules.specs.declared.Fault.the-variants.{Version}
+use Rattle.file_rules.specs.declared.End.the-variants.{Refused}
+use Rattle.file_rules.specs.declared.Item.the-variants.{Over}
+use Rattle.file_rules.specs.File.{byteAt, recordAt, itemAt}
 
 -- an empty file has no first byte
 pub no-first : (s : List ℕ) → length s ≡ zero → eqb (byteAt s 0) 1 ≡ false

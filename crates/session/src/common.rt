@@ -4,7 +4,7 @@ ghost use mathlib.Core.Path.{_≡_};
 ghost use mathlib.Core.Logic.{_≢_};
 ghost use mathlib.Core.Bool.{true};
 ghost use lib.ListN.{length};
-ghost use Rattle.files.specs.File.{byteAt, wordAt};
+ghost use Rattle.file_rules.specs.File.{byteAt, wordAt};
 use crate::fields::word_at;
 
 // How many bytes stand from a place on; 0 at the start of the file, where no record stands.

@@ -2,7 +2,7 @@
 ghost use Prim.Native.Nat.{_+_, _<_, _≤_};
 ghost use mathlib.Core.Path.{_≡_};
 ghost use lib.ListN.{length};
-ghost use Rattle.files.specs.File.{byteAt, wordAt, quadAt, lengthOf, settingsAt, eventAt};
+ghost use Rattle.file_rules.specs.File.{byteAt, wordAt, quadAt, lengthOf, settingsAt, eventAt};
 use kinds::signal_of;
 use rules::Event;
 use rules::Settings;

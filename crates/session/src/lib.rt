@@ -2,8 +2,8 @@
 // 01's numbers too (`ToldInNumbers` of rules/specs/ToldInNumbers.antt).
 ghost use mathlib.Core.Path.{_≡_};
 ghost use Rattle.rules.specs.ToldInNumbers.{ToldInNumbers};
-ghost use Rattle.files.specs.File.{itemAt};
-ghost use Rattle.files.specs.Numbers.{itemNumbers};
+ghost use Rattle.file_rules.specs.File.{itemAt};
+ghost use Rattle.file_rules.specs.Numbers.{itemNumbers};
 use crate::common::ahead;
 use crate::common::load_stands;
 use crate::common::tick_stands;
@@ -12,8 +12,8 @@ use crate::records::behind;
 use crate::records::opened;
 use crate::records::record_at;
 use crate::records::refused;
-use files::Fault;
-use files::Item;
+use file_rules::Fault;
+use file_rules::Item;
 use rules::Event;
 use rules::Signal;
 

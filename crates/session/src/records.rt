@@ -2,15 +2,15 @@
 ghost use mathlib.Core.Path.{_≡_};
 ghost use mathlib.Core.Bool.{cond};
 ghost use lib.Dec.{eqb};
-ghost use Rattle.files.specs.declared.End.the-variants.{Refused};
-ghost use Rattle.files.specs.declared.Item.the-variants.{Over};
-ghost use Rattle.files.specs.File.{byteAt, recordAt};
+ghost use Rattle.file_rules.specs.declared.End.the-variants.{Refused};
+ghost use Rattle.file_rules.specs.declared.Item.the-variants.{Over};
+ghost use Rattle.file_rules.specs.File.{byteAt, recordAt};
 use crate::fields::byte_at;
 use crate::fields::event_at;
 use crate::fields::word_at;
-use files::End;
-use files::Fault;
-use files::Item;
+use file_rules::End;
+use file_rules::Fault;
+use file_rules::Item;
 use kinds::length_of;
 
 pub(crate) fn refused(why: Fault, at: usize) -> Item

@@ -4,9 +4,9 @@
 ghost use Prim.Native.Nat.{_≤_};
 ghost use lib.ListN.{length};
 use console::within;
-use hextext::Decoded;
-use hextext::decode;
-use smallest::smallest_size;
+use hex::Decoded;
+use hex::decode;
+use sizes::smallest_size;
 use volts::volts;
 
 mod decimals;

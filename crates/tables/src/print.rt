@@ -1,7 +1,7 @@
 // What the program writes of a session: the refusal, the channels that are not at positive zero throughout, and the memory.
 use crate::decimals::is_negative;
 use crate::decimals::volts;
-use voltage::Extremes;
+use volt_rules::Extremes;
 
 pub(crate) fn line(text: &[u8]) {
     io::write_all(1, text);

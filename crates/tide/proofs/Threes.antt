@@ -7,7 +7,7 @@ use native.Mathlib.Omega.{arith}
 use lib.ListN.{length, getD, set, drop, drop-of-length-le}
 use lib.Seq.{paste, paste-zero, paste-suc, take-length}
 use lib.Ieee.{Float, nan}
-use Rattle.voltage.specs.declared.Extremes.{Extremes}
+use Rattle.volt_rules.specs.declared.Extremes.{Extremes}
 use Rattle.volts.specs.Watching.{noChannel}
 use Rattle.tide.specs.Promises.{numbersOf}
 

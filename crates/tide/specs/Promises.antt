@@ -5,9 +5,9 @@ use mathlib.Core.List.{List, [], _∷_}
 use lib.Ieee.{Float}
 use Rattle.rules.specs.Record.{start}
 use Rattle.rules.specs.Session.{after}
-use Rattle.files.specs.File.{session}
-use Rattle.voltage.specs.declared.Extremes.{Extremes}
-use Rattle.voltage.specs.Table.{tableRefusal, tableChannels}
+use Rattle.file_rules.specs.File.{session}
+use Rattle.volt_rules.specs.declared.Extremes.{Extremes}
+use Rattle.volt_rules.specs.Table.{tableRefusal, tableChannels}
 
 -- lowest, highest and last, channel after channel
 unfoldable pub numbersOf : List Extremes → List Float

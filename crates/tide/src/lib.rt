@@ -2,7 +2,7 @@
 // sixty numbers a pointer (hosts/).
 ghost use mathlib.Core.Path.{_≡_};
 ghost use Rattle.tide.specs.Promises.{numbersOf, VoltsCalled};
-use voltage::Extremes;
+use volt_rules::Extremes;
 use volts::volts;
 
 // Three numbers a channel, channel after channel.

@@ -9,8 +9,8 @@ use native.Mathlib.Omega.{arith}
 use lib.ListN.{length, getD, set, length-set}
 use lib.Seq.{getD-set-same, getD-set-other}
 use lib.Ieee.{Float}
-use Rattle.voltage.specs.declared.Extremes.{Extremes}
-use Rattle.voltage.specs.Volts.{voltsOf}
+use Rattle.volt_rules.specs.declared.Extremes.{Extremes}
+use Rattle.volt_rules.specs.Volts.{voltsOf}
 use Rattle.volts.specs.Watching.{noChannel, entered, AllEntered}
 
 module _ (fresh : Bool) (ts : List Extremes) (range : ℕ) (levels : List ℕ) where

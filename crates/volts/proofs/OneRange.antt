@@ -8,10 +8,10 @@ use Rattle.rules.specs.declared.Board.{Board}
 use Rattle.rules.specs.Record.{State, start}
 use Rattle.rules.specs.Step.{step}
 use Rattle.rules.proofs.Choice.{cases}
-use Rattle.voltage.specs.Counting.{Counted, nothingCounted, startsAfresh, countEvent}
-use Rattle.voltage.proofs.Counting.{also-counted}
-use Rattle.voltage.proofs.Playing.{Sixteen, start-holds, event-holds}
-use Rattle.voltage.proofs.Tables.{event-sixteen}
+use Rattle.volt_rules.specs.Counting.{Counted, nothingCounted, startsAfresh, countEvent}
+use Rattle.volt_rules.proofs.Counting.{also-counted}
+use Rattle.volt_rules.proofs.Playing.{Sixteen, start-holds, event-holds}
+use Rattle.volt_rules.proofs.Tables.{event-sixteen}
 use Rattle.volts.specs.Watching.{SameRange}
 
 abbrev pub Suits : Counted → Board → Type 0

@@ -10,7 +10,7 @@ use lib.Ieee.Fits.{down-pos}
 use lib.Ieee.Exact.{HasValue}
 use lib.Ieee.Back.{round-whole}
 use lib.Ieee.Scale.{round-same}
-use Rattle.voltage.specs.Volts.{share}
+use Rattle.volt_rules.specs.Volts.{share}
 
 over : (x : Float) (n : ℕ) → HasValue x false n 1 → div binary32 x (fin false 1 (pos 16)) ≡ share n
 unfolding div share

@@ -9,16 +9,16 @@ use Rattle.rules.specs.declared.Board.{Board}
 use Rattle.rules.specs.Record.{State, stateOf, unpowered, start}
 use Rattle.rules.specs.Step.{step}
 use Rattle.rules.specs.Session.{after}
-use Rattle.files.specs.declared.End.{End}
-use Rattle.files.specs.File.{Session, session}
+use Rattle.file_rules.specs.declared.End.{End}
+use Rattle.file_rules.specs.File.{Session, session}
 use Rattle.run.specs.declared.Cursor.{Cursor}
 use Rattle.run.specs.declared.Ahead.the-variants.{Found, Over}
 use Rattle.run.specs.Run.{found}
 use Rattle.run.specs.Way.{Way, Passes}
 use Rattle.run.proofs.Ways.{way-start, way-on, way-over}
-use Rattle.voltage.specs.declared.Table.{Table}
-use Rattle.voltage.specs.Counting.{Counted, nothingCounted, countEvent, counted}
-use Rattle.voltage.specs.Table.{countedIn}
+use Rattle.volt_rules.specs.declared.Table.{Table}
+use Rattle.volt_rules.specs.Counting.{Counted, nothingCounted, countEvent, counted}
+use Rattle.volt_rules.specs.Table.{countedIn}
 use Rattle.volts.specs.declared.Observed.{Observed}
 use Rattle.volts.specs.Watching.{refusedTable, tableOf, closedTable}
 use Rattle.volts.specs.Observing.{Observes}

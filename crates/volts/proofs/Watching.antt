@@ -8,16 +8,16 @@ use lib.Dec.{eqb}
 use lib.ListN.{getD}
 use lib.Seq.{ext-getD}
 use Rattle.rules.specs.declared.Board.{Board}
-use Rattle.files.specs.declared.End.{End}
-use Rattle.files.specs.declared.End.the-variants.{File, Refused}
-use Rattle.files.specs.File.{session}
-use Rattle.voltage.specs.declared.Extremes.{Extremes}
-use Rattle.voltage.specs.declared.Table.{Table}
-use Rattle.voltage.specs.Volts.{voltsOf}
-use Rattle.voltage.specs.Counting.{Counted, nothingCounted, also}
-use Rattle.voltage.specs.Extremes.{picked, lastOf}
-use Rattle.voltage.specs.Table.{channel, channelsFrom, channelsOf, countedIn, powerRefusal, tableRefusal, tableChannels}
-use Rattle.voltage.proofs.Tables.{fault-some, file-refused, file-ended, channels-by, twenty-long, channel-at}
+use Rattle.file_rules.specs.declared.End.{End}
+use Rattle.file_rules.specs.declared.End.the-variants.{File, Refused}
+use Rattle.file_rules.specs.File.{session}
+use Rattle.volt_rules.specs.declared.Extremes.{Extremes}
+use Rattle.volt_rules.specs.declared.Table.{Table}
+use Rattle.volt_rules.specs.Volts.{voltsOf}
+use Rattle.volt_rules.specs.Counting.{Counted, nothingCounted, also}
+use Rattle.volt_rules.specs.Extremes.{picked, lastOf}
+use Rattle.volt_rules.specs.Table.{channel, channelsFrom, channelsOf, countedIn, powerRefusal, tableRefusal, tableChannels}
+use Rattle.volt_rules.proofs.Tables.{fault-some, file-refused, file-ended, channels-by, twenty-long, channel-at}
 use Rattle.volts.specs.Watching.{noChannel, entered, AllEntered, tableOf, watched, closedTable, RecordEntered}
 
 -- ---- One more record

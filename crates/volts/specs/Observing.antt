@@ -7,8 +7,8 @@ use Rattle.rules.specs.declared.Event.{Event}
 use Rattle.rules.specs.declared.Board.{Board}
 use Rattle.rules.specs.Record.{stateOf}
 use Rattle.rules.specs.Step.{step}
-use Rattle.voltage.specs.declared.Table.{Table}
-use Rattle.voltage.specs.Counting.{Counted, startsAfresh, countEvent}
+use Rattle.volt_rules.specs.declared.Table.{Table}
+use Rattle.volt_rules.specs.Counting.{Counted, startsAfresh, countEvent}
 use Rattle.volts.specs.declared.Observed.{Observed}
 use Rattle.volts.specs.Watching.{tableOf, SameRange}
 

@@ -2,8 +2,8 @@
 use Prim.Native.Nat.{ℕ}
 use mathlib.Core.Path.{_≡_}
 use mathlib.Core.List.{List}
-use Rattle.voltage.specs.declared.Table.{Table}
-use Rattle.voltage.specs.Table.{tableRefusal, tableChannels, tableMemory}
+use Rattle.volt_rules.specs.declared.Table.{Table}
+use Rattle.volt_rules.specs.Table.{tableRefusal, tableChannels, tableMemory}
 
 pub record Tabled (s m : List ℕ) (r : Table) (m′ : List ℕ) : Type 0 where
   pub refusal : r .refusal ≡ tableRefusal s m

@@ -2,7 +2,7 @@
 use Prim.Native.Nat.{ℕ}
 use mathlib.Core.Path.{_≡_}
 use mathlib.Core.List.{List}
-use Rattle.voltage.specs.declared.Table.{Table}
+use Rattle.volt_rules.specs.declared.Table.{Table}
 use Rattle.volts.specs.Promises.{Tabled}
 
 abbrev pub Tabled-unique : Type 0

@@ -10,15 +10,15 @@ use mathlib.Core.List.{List}
 use lib.ListN.{length, getD}
 use lib.Ieee.{Float, nan}
 use Rattle.rules.specs.declared.Board.{Board}
-use Rattle.files.specs.declared.End.{End}
-use Rattle.files.specs.declared.End.the-variants.{File, Refused}
-use Rattle.files.specs.File.{faultNumber}
-use Rattle.voltage.specs.declared.Extremes.{Extremes}
-use Rattle.voltage.specs.declared.Table.{Table}
-use Rattle.voltage.specs.Volts.{voltsOf}
-use Rattle.voltage.specs.Counting.{Counted, nothingCounted, freshly, also}
-use Rattle.voltage.specs.Extremes.{lesser, greater}
-use Rattle.voltage.specs.Table.{channelsOf, powerRefusal}
+use Rattle.file_rules.specs.declared.End.{End}
+use Rattle.file_rules.specs.declared.End.the-variants.{File, Refused}
+use Rattle.file_rules.specs.File.{faultNumber}
+use Rattle.volt_rules.specs.declared.Extremes.{Extremes}
+use Rattle.volt_rules.specs.declared.Table.{Table}
+use Rattle.volt_rules.specs.Volts.{voltsOf}
+use Rattle.volt_rules.specs.Counting.{Counted, nothingCounted, freshly, also}
+use Rattle.volt_rules.specs.Extremes.{lesser, greater}
+use Rattle.volt_rules.specs.Table.{channelsOf, powerRefusal}
 
 -- what the checker takes for an element past the end
 abbrev pub noChannel : Extremes

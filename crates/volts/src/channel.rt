@@ -1,8 +1,8 @@
 // The record of one channel, updated with the volts that it has after an event.
 ghost use mathlib.Core.Path.{_≡_};
-ghost use Rattle.voltage.specs.Extremes.{lesser, greater};
+ghost use Rattle.volt_rules.specs.Extremes.{lesser, greater};
 ghost use Rattle.volts.specs.Watching.{entered};
-use voltage::Extremes;
+use volt_rules::Extremes;
 
 fn lesser_of(x: f32, y: f32) -> f32
     ensures { λ r. ⌜ r ≡ lesser x y ⌝ }

@@ -1,7 +1,7 @@
 // The volts of a level, exactly.
 ghost use Prim.Native.Nat.{_<_};
 ghost use mathlib.Core.Path.{_≡_};
-ghost use Rattle.voltage.specs.Volts.{factor, share, voltsOf};
+ghost use Rattle.volt_rules.specs.Volts.{factor, share, voltsOf};
 
 // 02: "5, 10 or 20 for range 0, 1, 2"
 fn factor_of(range: u32) -> u32

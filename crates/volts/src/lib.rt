@@ -13,7 +13,7 @@ use rules::Event;
 use run::Ahead;
 use run::Cursor;
 use run::next;
-use voltage::Table;
+use volt_rules::Table;
 
 mod channel;
 mod levels;

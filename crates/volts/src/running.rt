@@ -3,16 +3,16 @@
 ghost use mathlib.Core.Path.{_≡_};
 ghost use mathlib.Core.Bool.{_&&_};
 ghost use lib.Dec.{eqb};
-ghost use Rattle.voltage.specs.Counting.{isPowerUp};
+ghost use Rattle.volt_rules.specs.Counting.{isPowerUp};
 ghost use Rattle.volts.specs.Watching.{AllEntered, RecordEntered, Watched, refusedTable, closedTable};
 use crate::channel::enter;
 use crate::levels::volts_of;
-use files::End;
+use file_rules::End;
 use kinds::fault_number;
 use rules::Board;
 use rules::Event;
-use voltage::Extremes;
-use voltage::Table;
+use volt_rules::Extremes;
+use volt_rules::Table;
 
 // 02: "all of them return all zeros"
 pub(crate) fn refused(refusal: u32) -> Table

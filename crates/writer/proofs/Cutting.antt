@@ -9,12 +9,12 @@ use Rattle.rules.specs.declared.Event.the-variants.{Write as write}
 use Rattle.rules.specs.Bits.{activeFrom}
 use Rattle.laws.specs.Moved.{Among}
 use Rattle.laws.proofs.Actives.{active-to}
-use Rattle.files.specs.Bytes.{bytesOf, recordsOf, fileOf}
-use Rattle.files.specs.Pieces.{Piece}
-use Rattle.files.proofs.Joined.{then, renamed, piece-length}
-use Rattle.cuts.specs.Cut.{Cut, sample, chosen, groups, numbersFrom, numbers, events}
-use Rattle.cuts.proofs.Given.{GoodCut, session-told}
-use Rattle.cuts.proofs.ChosenNumbers.{numbers-told}
+use Rattle.file_rules.specs.Bytes.{bytesOf, recordsOf, fileOf}
+use Rattle.file_rules.specs.Pieces.{Piece}
+use Rattle.file_rules.proofs.Joined.{then, renamed, piece-length}
+use Rattle.cut_rules.specs.Cut.{Cut, sample, chosen, groups, numbersFrom, numbers, events}
+use Rattle.cut_rules.proofs.Given.{GoodCut, session-told}
+use Rattle.cut_rules.proofs.ChosenNumbers.{numbers-told}
 use Rattle.writer.specs.Cutting.{valuesOf, groupAt, loadRecords}
 use Rattle.writer.proofs.NoBytes.{none-left}
 use Rattle.writer.proofs.Marks.{loads-long, loads-append, loads-over, loads-marked}

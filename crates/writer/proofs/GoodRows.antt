@@ -9,14 +9,14 @@ use lib.ListN.{length}
 use Rattle.rules.specs.declared.Event.{Event}
 use Rattle.rules.specs.declared.Event.the-variants.{PowerUp as powerUp, Write as write, Read as read, Signal as signal}
 use Rattle.rules.specs.declared.Signal.{Signal}
-use Rattle.files.specs.File.{lengthOf}
-use Rattle.files.specs.Bytes.{signalKind, kindOf, two, four, fieldsOf, bytesOf, Fits}
-use Rattle.files.specs.Row.{rowOf, field, eventOfRow}
-use Rattle.files.specs.Writing.{rowRefusal}
-use Rattle.files.specs.WritingLaws.{RowGiven, good}
-use Rattle.files.proofs.Lengths.{known-length, known-small}
-use Rattle.files.proofs.Written.{known, row-read}
-use Rattle.files.proofs.RowsGiven.{row-exactly}
+use Rattle.file_rules.specs.File.{lengthOf}
+use Rattle.file_rules.specs.Bytes.{signalKind, kindOf, two, four, fieldsOf, bytesOf, Fits}
+use Rattle.file_rules.specs.Row.{rowOf, field, eventOfRow}
+use Rattle.file_rules.specs.Writing.{rowRefusal}
+use Rattle.file_rules.specs.WritingLaws.{RowGiven, good}
+use Rattle.file_rules.proofs.Lengths.{known-length, known-small}
+use Rattle.file_rules.proofs.Written.{known, row-read}
+use Rattle.file_rules.proofs.RowsGiven.{row-exactly}
 
 -- what holds of the rows of events whose fields fit holds of a good row and its event
 of-event : (P : List ℕ → Event → Type 0) → ((e : Event) → Fits e → P (rowOf e) e)

@@ -6,14 +6,14 @@ use mathlib.Core.List.{List, [], _∷_}
 use native.Mathlib.Omega.{arith}
 use lib.ListN.{length, drop, length-append, length-drop}
 use lib.Seq.{length-take-le}
-use Rattle.files.specs.File.{lengthOf}
-use Rattle.files.specs.Bytes.{bytesOf, fileOf}
-use Rattle.files.specs.Row.{field, eventOfRow}
-use Rattle.files.specs.Pieces.{Piece}
-use Rattle.files.specs.Writing.{rowsIn, eventsIn, rowRefusal, firstBad, writeRefusal}
-use Rattle.files.proofs.Lengths.{length-small}
-use Rattle.files.proofs.Joined.{then, renamed, piece-length}
-use Rattle.files.proofs.WritesGiven.{good-call}
+use Rattle.file_rules.specs.File.{lengthOf}
+use Rattle.file_rules.specs.Bytes.{bytesOf, fileOf}
+use Rattle.file_rules.specs.Row.{field, eventOfRow}
+use Rattle.file_rules.specs.Pieces.{Piece}
+use Rattle.file_rules.specs.Writing.{rowsIn, eventsIn, rowRefusal, firstBad, writeRefusal}
+use Rattle.file_rules.proofs.Lengths.{length-small}
+use Rattle.file_rules.proofs.Joined.{then, renamed, piece-length}
+use Rattle.file_rules.proofs.WritesGiven.{good-call}
 use Rattle.writer.specs.RowsFrom.{rowsFrom, rowAt, recordsFrom, JudgesRow, Judges}
 use Rattle.writer.proofs.NoBytes.{none-left}
 use Rattle.writer.proofs.GoodRows.{row-bytes-length}

@@ -8,8 +8,8 @@ use native.Mathlib.Omega.{arith}
 use borrow.Author.Tests.{eq-eqb, ne-eqb}
 use lib.ListN.{length}
 use Rattle.rules.specs.declared.Event.the-variants.{Write as write}
-use Rattle.files.specs.Bytes.{bytesOf, recordsOf}
-use Rattle.cuts.specs.Cut.{eofOnLast}
+use Rattle.file_rules.specs.Bytes.{bytesOf, recordsOf}
+use Rattle.cut_rules.specs.Cut.{eofOnLast}
 use Rattle.writer.specs.Cutting.{loadRecord, loadRecords}
 
 pub loads-long : (end at : ℕ) (vs : List ℕ) → length (loadRecords end at vs) ≡ 8 * length vs

@@ -9,10 +9,10 @@ use lib.Count.{ones, ones-le}
 use lib.Dec.{ltb}
 use lib.ListN.{length}
 use Rattle.rules.proofs.Masks.{below-bits}
-use Rattle.cuts.specs.Cut.{Cut, groups, isGrouped, isChoice, cutRefusal}
-use Rattle.cuts.specs.Laws.{Grouped, GoodChoice, pastEnd, tooLong, done}
+use Rattle.cut_rules.specs.Cut.{Cut, groups, isGrouped, isChoice, cutRefusal}
+use Rattle.cut_rules.specs.Laws.{Grouped, GoodChoice, pastEnd, tooLong, done}
 use Rattle.writer.specs.Cutting.{valuesOf}
-use Rattle.cuts.proofs.Given.{grouped-to, choice-to, not-grouped, not-chosen, cut-exactly}
+use Rattle.cut_rules.proofs.Given.{grouped-to, choice-to, not-grouped, not-chosen, cut-exactly}
 
 -- ---- How many
 

@@ -8,9 +8,9 @@ use native.Mathlib.Omega.{arith}
 use lib.Dec.{ltb}
 use lib.ListN.{length}
 use borrow.Author.Tests.{ltb-true, ltb-false}
-use Rattle.files.specs.Bytes.{fileOf}
-use Rattle.files.specs.Writing.{eventsIn, writeRefusal}
-use Rattle.files.proofs.WritesGiven.{decided, whole-decided, bad-decided, past-decided, short-decided, room-decided}
+use Rattle.file_rules.specs.Bytes.{fileOf}
+use Rattle.file_rules.specs.Writing.{eventsIn, writeRefusal}
+use Rattle.file_rules.proofs.WritesGiven.{decided, whole-decided, bad-decided, past-decided, short-decided, room-decided}
 use Rattle.writer.specs.RowsFrom.{Judges}
 
 module _ (xs : List ℕ) (n place : ℕ) (whole : length xs % 6 ≡ 0) (m fields : ℕ) (j : Judges xs m fields) where

@@ -9,10 +9,10 @@ use borrow.Author.Tests.{eqb-true, eqb-false}
 use lib.Dec.{eqb}
 use lib.ListN.{length, drop}
 use lib.Seq.{drop-drop}
-use Rattle.files.specs.Bytes.{bytesOf, recordsOf, fileOf}
-use Rattle.files.specs.Row.{eventOfRow}
-use Rattle.files.specs.Writing.{sixes, rowsIn, eventsIn, rowRefusal, firstBad}
-use Rattle.files.proofs.WritesGiven.{first-good, first-refused}
+use Rattle.file_rules.specs.Bytes.{bytesOf, recordsOf, fileOf}
+use Rattle.file_rules.specs.Row.{eventOfRow}
+use Rattle.file_rules.specs.Writing.{sixes, rowsIn, eventsIn, rowRefusal, firstBad}
+use Rattle.file_rules.proofs.WritesGiven.{first-good, first-refused}
 use Rattle.writer.specs.RowsFrom.{rowsFrom, rowAt, recordsFrom}
 
 module _ (xs : List ℕ) where

@@ -10,7 +10,7 @@ use lib.Count.{ones}
 use lib.Dec.{eqb}
 use lib.ListN.{getD}
 use Rattle.rules.specs.declared.Event.the-variants.{Write as write}
-use Rattle.files.specs.Bytes.{bytesOf}
+use Rattle.file_rules.specs.Bytes.{bytesOf}
 
 -- of the groups from the first to the last, "both taken", a number for each one of the mask
 abbrev pub valuesOf : ℕ → ℕ → ℕ → ℕ

@@ -6,9 +6,9 @@ use Prim.Native.Nat.{ℕ, _+_, _*_, _-_, _/_, _≤_}
 use mathlib.Core.Path.{_≡_}
 use mathlib.Core.List.{List, map}
 use lib.ListN.{length, take, drop}
-use Rattle.files.specs.Bytes.{bytesOf, recordsOf, fileOf}
-use Rattle.files.specs.Row.{eventOfRow}
-use Rattle.files.specs.Writing.{sixes, rowsIn, eventsIn, rowRefusal, firstBad}
+use Rattle.file_rules.specs.Bytes.{bytesOf, recordsOf, fileOf}
+use Rattle.file_rules.specs.Row.{eventOfRow}
+use Rattle.file_rules.specs.Writing.{sixes, rowsIn, eventsIn, rowRefusal, firstBad}
 
 abbrev pub rowsFrom : List ℕ → ℕ → List (List ℕ)
 rowsFrom xs at = sixes ((length xs - at) / 6) (drop at xs)

@@ -2,7 +2,7 @@
 use Prim.Native.Nat.{ℕ}
 use mathlib.Core.Path.{_≡_}
 use mathlib.Core.List.{List}
-use Rattle.cuts.specs.Cut.{Cut}
+use Rattle.cut_rules.specs.Cut.{Cut}
 use Rattle.writer.specs.declared.Written.{Written}
 use Rattle.writer.specs.Promises.{Writes, Cuts}
 

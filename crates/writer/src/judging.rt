@@ -3,7 +3,7 @@ ghost use Prim.Native.Nat.{_+_, _*_, _/_, _%_, _≤_};
 ghost use mathlib.Core.Path.{_≡_};
 ghost use lib.Dec.{ltb};
 ghost use lib.ListN.{length};
-ghost use Rattle.files.specs.Writing.{writeRefusal};
+ghost use Rattle.file_rules.specs.Writing.{writeRefusal};
 ghost use Rattle.writer.specs.RowsFrom.{Judges, JudgesRow};
 use crate::rows::row_at;
 use crate::rows::row_refusal;

@@ -2,7 +2,7 @@
 ghost use Prim.Native.Nat.{ℕ, _+_, _*_, _-_, _^_, _≤_, _<_};
 ghost use mathlib.Core.Path.{_≡_};
 ghost use lib.Dec.{ltb};
-ghost use Rattle.cuts.specs.Cut.{isGrouped, isChoice, cutRefusal};
+ghost use Rattle.cut_rules.specs.Cut.{isGrouped, isChoice, cutRefusal};
 ghost use Rattle.writer.specs.Cutting.{valuesOf};
 ghost use Rattle.writer.specs.Promises.{cutOf};
 

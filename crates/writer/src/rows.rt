@@ -3,7 +3,7 @@ ghost use Prim.Native.Nat.{_+_, _≤_};
 ghost use mathlib.Core.Path.{_≡_};
 ghost use mathlib.Core.List.{[], _∷_};
 ghost use lib.ListN.{length};
-ghost use Rattle.files.specs.Writing.{widths, fitWidths, rowRefusal};
+ghost use Rattle.file_rules.specs.Writing.{widths, fitWidths, rowRefusal};
 ghost use Rattle.writer.specs.RowsFrom.{rowAt};
 use kinds::length_of;
 

@@ -1,5 +1,5 @@
 use borrow.Author.Needs.{needs}
-use Rattle.files.specs.File.{faultNumber}
+use Rattle.file_rules.specs.File.{faultNumber}
 use Rattle.kinds.proofs.fault_number.Statement.{statement}
 use Rattle.kinds.proofs.fault_number.Tie as tie
 

@@ -1,7 +1,7 @@
 -- `length_of` meets its contract: by the kind that is met, or that none is.
 use native.Mathlib.Omega.{arith}
 use borrow.Author.Tests.{ne-eqb, le-leb, lt-leb}
-use Rattle.files.specs.File.{lengthOf}
+use Rattle.file_rules.specs.File.{lengthOf}
 use Rattle.kinds.proofs.length_of.Statement.{statement}
 use Rattle.kinds.proofs.length_of.Tie as tie
 

@@ -1,7 +1,7 @@
 use mathlib.Core.Path.{sym, ap, _∙_}
 use mathlib.Core.List.{[], _∷_}
 use borrow.Author.Needs.{needs}
-use Rattle.files.specs.Row.{rowOf}
+use Rattle.file_rules.specs.Row.{rowOf}
 use Rattle.kinds.proofs.row_of.Statement.{statement}
 use Rattle.kinds.proofs.row_of.Tie as tie
 

@@ -1,5 +1,5 @@
 use borrow.Author.Tests.{ne-eqb}
-use Rattle.files.specs.File.{signalOf}
+use Rattle.file_rules.specs.File.{signalOf}
 use Rattle.kinds.proofs.signal_of.Statement.{statement}
 use Rattle.kinds.proofs.signal_of.Tie as tie
 

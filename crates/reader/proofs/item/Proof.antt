@@ -43,14 +43,14 @@ use denote.Triple.Walked.{says, Stays, stay-none, walkOf, goes-none, Walks, ends
 use denote.Exit.{yes}
 use denote.Triple.Clauses.{ensured, lasts}
 use Rattle.rules.specs.ToldInNumbers.{ToldInNumbers}
-use Rattle.files.specs.Numbers.{itemNumbers}
-use Rattle.files.specs.File.{itemAt}
+use Rattle.file_rules.specs.Numbers.{itemNumbers}
+use Rattle.file_rules.specs.File.{itemAt}
 use Rattle.reader.specs.declared.Reader.{Reader}
-use Rattle.files.specs.declared.Item.{Item}
+use Rattle.file_rules.specs.declared.Item.{Item}
 use Rattle.reader.proofs.Reader as T
 use Rattle.reader.proofs.Reader.Laws as T′
-use Rattle.files.proofs.Item as S
-use Rattle.files.proofs.Item.Laws as S′
+use Rattle.file_rules.proofs.Item as S
+use Rattle.file_rules.proofs.Item.Laws as S′
 use Rattle.session.proofs.item_at as at
 use Rattle.session.proofs.item_at.Symbol as at-def
 use Rattle.session.proofs.item_at.Symbol.{name as #session·item-at}

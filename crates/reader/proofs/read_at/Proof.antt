@@ -39,15 +39,15 @@ use denote.Exit.{yes}
 use denote.Triple.Clauses.{ensured, lasts}
 use Rattle.rules.specs.ToldInNumbers.{ToldInNumbers}
 use Rattle.rules.proofs.Equal.{told-in-numbers}
-use Rattle.files.specs.Numbers.{itemNumbers}
-use Rattle.files.specs.File.{itemAt}
+use Rattle.file_rules.specs.Numbers.{itemNumbers}
+use Rattle.file_rules.specs.File.{itemAt}
 use Rattle.reader.specs.Promises.{Opened}
 use Rattle.reader.specs.declared.Reader.{Reader}
-use Rattle.files.specs.declared.Item.{Item}
+use Rattle.file_rules.specs.declared.Item.{Item}
 use Rattle.reader.proofs.Reader as T
 use Rattle.reader.proofs.Reader.Laws as T′
-use Rattle.files.proofs.Item as S
-use Rattle.files.proofs.Item.Laws as S′
+use Rattle.file_rules.proofs.Item as S
+use Rattle.file_rules.proofs.Item.Laws as S′
 use Rattle.reader.proofs.open as opn
 use Rattle.reader.proofs.open.Symbol as open-def
 use Rattle.reader.proofs.open.Symbol.{name as #reader·open}

@@ -5,7 +5,7 @@ use borrow.Author.Needs.{needs}
 use lib.ListN.{length}
 use Rattle.rules.specs.declared.Board.{Board}
 use Rattle.rules.specs.Record.{State, stateOf, start}
-use Rattle.files.specs.File.{verdict}
+use Rattle.file_rules.specs.File.{verdict}
 use Rattle.run.specs.Way.{Way}
 use Rattle.run.proofs.Ways.{way-start, way-on, way-over, way-ends}
 use Rattle.run.proofs.Advancing.{was-played, was-ended}

@@ -4,7 +4,7 @@ use mathlib.Core.Bool.{Bool, not, _&&_}
 use borrow.Author.Needs.{needs}
 use lib.Dec.{eqb}
 use denote.Ref.{now}
-use Rattle.files.specs.File.{recordAt}
+use Rattle.file_rules.specs.File.{recordAt}
 use Rattle.session.proofs.Opening.{not-opened, opened}
 use Rattle.session.proofs.any_at.Statement.{statement}
 use Rattle.session.proofs.any_at.Tie as tie

@@ -5,8 +5,8 @@ use native.Mathlib.Omega.{arith}
 use borrow.Author.Needs.{needs}
 use Rattle.rules.specs.declared.Event.the-variants.{Write}
 use Rattle.rules.proofs.Equal.{told-in-numbers}
-use Rattle.files.specs.declared.Item.the-variants.{Got}
-use Rattle.files.specs.Numbers.{itemNumbers}
+use Rattle.file_rules.specs.declared.Item.the-variants.{Got}
+use Rattle.file_rules.specs.Numbers.{itemNumbers}
 use Rattle.session.proofs.Commonest.{tick-stands, load-stands}
 use Rattle.session.proofs.item_at.Statement.{statement}
 use Rattle.session.proofs.item_at.Tie as tie

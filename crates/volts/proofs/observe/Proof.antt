@@ -3,7 +3,7 @@ use mathlib.Core.Bool.{_&&_}
 use borrow.Author.Needs.{needs}
 use lib.Dec.{eqb}
 use Rattle.rules.specs.declared.Answer.{Answer}
-use Rattle.voltage.specs.Counting.{isPowerUp, countEvent}
+use Rattle.volt_rules.specs.Counting.{isPowerUp, countEvent}
 use Rattle.volts.specs.Watching.{tableOf, watched, SameRange}
 use Rattle.volts.proofs.observe.Statement.{statement}
 use Rattle.volts.proofs.observe.Tie as tie

@@ -2,7 +2,7 @@
 use mathlib.Core.Path.{sym, _∙_}
 use denote.Ref.{now}
 use borrow.Author.Needs.{needs}
-use Rattle.cuts.proofs.Given.{cut-refused, cut-ends, cut-leaves}
+use Rattle.cut_rules.proofs.Given.{cut-refused, cut-ends, cut-leaves}
 use Rattle.writer.proofs.cut.Statement.{statement}
 use Rattle.writer.proofs.cut.Tie as tie
 

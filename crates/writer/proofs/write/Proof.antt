@@ -2,7 +2,7 @@
 use mathlib.Core.Path.{sym, _∙_}
 use denote.Ref.{now}
 use borrow.Author.Needs.{needs}
-use Rattle.files.proofs.WriteRead.{write-refused, call-ends, call-leaves}
+use Rattle.file_rules.proofs.WriteRead.{write-refused, call-ends, call-leaves}
 use Rattle.writer.proofs.write.Statement.{statement}
 use Rattle.writer.proofs.write.Tie as tie
 

@@ -2,7 +2,7 @@ use mathlib.Core.Path.{ap}
 use Rattle.bridge.specs.Types.{signal}
 use borrow.Author.Needs.{needs}
 use borrow.Author.Tests.{ne-eqb}
-use Rattle.files.specs.File.{eventOf}
+use Rattle.file_rules.specs.File.{eventOf}
 use Rattle.bridge.proofs.events.event_of.Statement.{statement}
 use Rattle.bridge.proofs.events.event_of.Tie as tie
 

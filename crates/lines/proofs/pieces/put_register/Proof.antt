@@ -1,9 +1,9 @@
 -- `put_register` meets its contract: 0 has eight digits 0, and any other number is written by fours.
 use native.Mathlib.Omega.{arith}
 use borrow.Author.Needs.{needs}
-use Rattle.text.specs.Text.{hex}
-use Rattle.files.proofs.Joined.{then, piece-length, room-after}
-use Rattle.text.proofs.Numbers.{hex-long, hex-four}
+use Rattle.listing_rules.specs.Text.{hex}
+use Rattle.file_rules.proofs.Joined.{then, piece-length, room-after}
+use Rattle.listing_rules.proofs.Numbers.{hex-long, hex-four}
 use Rattle.lines.proofs.pieces.put_register.Statement.{statement}
 use Rattle.lines.proofs.pieces.put_register.Tie as tie
 

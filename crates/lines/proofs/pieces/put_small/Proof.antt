@@ -1,9 +1,9 @@
 -- `put_small` meets its contract: the digits before the last two, and these.
 use native.Mathlib.Omega.{arith}
 use borrow.Author.Needs.{needs}
-use Rattle.text.proofs.Numbers.{decimal-long, decimal-room}
+use Rattle.listing_rules.proofs.Numbers.{decimal-long, decimal-room}
 use Rattle.lines.proofs.Digits.{decimal-two}
-use Rattle.files.proofs.Joined.{then, piece-length, room-after}
+use Rattle.file_rules.proofs.Joined.{then, piece-length, room-after}
 use Rattle.lines.proofs.pieces.put_small.Statement.{statement}
 use Rattle.lines.proofs.pieces.put_small.Tie as tie
 

@@ -1,8 +1,8 @@
 -- `put_tens` meets its contract: one digit, or two.
 use borrow.Author.Needs.{needs}
-use Rattle.text.proofs.Numbers.{decimal-one}
+use Rattle.listing_rules.proofs.Numbers.{decimal-one}
 use Rattle.lines.proofs.Digits.{decimal-pair}
-use Rattle.files.proofs.Joined.{piece-length}
+use Rattle.file_rules.proofs.Joined.{piece-length}
 use Rattle.lines.proofs.pieces.put_tens.Statement.{statement}
 use Rattle.lines.proofs.pieces.put_tens.Tie as tie
 

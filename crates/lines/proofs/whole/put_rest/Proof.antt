@@ -3,8 +3,8 @@ use Prim.Native.Nat.{_+_, _≤_}
 use native.Mathlib.Omega.{arith}
 use lib.ListN.{length}
 use borrow.Author.Needs.{needs}
-use Rattle.files.proofs.Joined.{then, piece-length, room-after}
-use Rattle.text.proofs.Numbers.{field-long}
+use Rattle.file_rules.proofs.Joined.{then, piece-length, room-after}
+use Rattle.listing_rules.proofs.Numbers.{field-long}
 use Rattle.lines.proofs.whole.put_rest.Statement.{statement}
 use Rattle.lines.proofs.whole.put_rest.Tie as tie
 

@@ -9,10 +9,10 @@ use lib.Seq.{drop-cons}
 use mir.Syntax.{w16}
 use borrow.Kind.Array.{eInt, good-length}
 use borrow.Author.Needs.{needs}
-use Rattle.text.specs.Text.{levelsIn, levelsLine}
-use Rattle.files.specs.Pieces.{Piece}
-use Rattle.files.proofs.Joined.{then, piece-length, room-after}
-use Rattle.text.proofs.Numbers.{hex-long}
+use Rattle.listing_rules.specs.Text.{levelsIn, levelsLine}
+use Rattle.file_rules.specs.Pieces.{Piece}
+use Rattle.file_rules.proofs.Joined.{then, piece-length, room-after}
+use Rattle.listing_rules.proofs.Numbers.{hex-long}
 use Rattle.lines.proofs.whole.write_levels.Statement.{statement}
 use Rattle.lines.proofs.whole.write_levels.Tie as tie
 

@@ -1,11 +1,11 @@
 use Prim.Native.Nat.{_^_, _<_}
 use mathlib.Core.Path.{subst}
 use borrow.Author.Needs.{needs}
-use Rattle.files.specs.declared.End.{End}
-use Rattle.files.specs.File.{verdict}
-use Rattle.files.proofs.Joined.{piece-length}
+use Rattle.file_rules.specs.declared.End.{End}
+use Rattle.file_rules.specs.File.{verdict}
+use Rattle.file_rules.proofs.Joined.{piece-length}
 use Rattle.lines.proofs.Printing.{printed-piece}
-use Rattle.text.specs.Listing.{ending}
+use Rattle.listing_rules.specs.Listing.{ending}
 use Rattle.listing.proofs.tails.put_end.Statement.{statement}
 use Rattle.listing.proofs.tails.put_end.Tie as tie
 

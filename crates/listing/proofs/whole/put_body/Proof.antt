@@ -8,12 +8,12 @@ use lib.ListN.{length}
 use Rattle.rules.specs.declared.Board.{Board}
 use Rattle.rules.specs.Record.{State, unpowered, stateOf}
 use Rattle.rules.specs.Session.{after}
-use Rattle.files.specs.File.{session}
-use Rattle.files.proofs.Given.{item-exactly}
-use Rattle.files.proofs.Sessions.{given-within}
-use Rattle.text.specs.Listing.{body}
+use Rattle.file_rules.specs.File.{session}
+use Rattle.file_rules.proofs.Given.{item-exactly}
+use Rattle.file_rules.proofs.Sessions.{given-within}
+use Rattle.listing_rules.specs.Listing.{body}
 use Rattle.run.proofs.Ways.{end-stood, way-ends}
-use Rattle.files.specs.Pieces.{Piece}
+use Rattle.file_rules.specs.Pieces.{Piece}
 use Rattle.lines.proofs.Printing.{printed-piece}
 use Rattle.listing.specs.Draft.{draft, Walked}
 use Rattle.listing.proofs.Body.{in-reach}

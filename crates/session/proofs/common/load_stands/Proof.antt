@@ -6,7 +6,7 @@ use borrow.Author.Tests.{eqb-true}
 use borrow.Author.Needs.{needs}
 use lib.Dec.{eqb}
 use Rattle.rules.proofs.Choice.{and-both}
-use Rattle.files.specs.File.{byteAt}
+use Rattle.file_rules.specs.File.{byteAt}
 use Rattle.session.proofs.common.load_stands.Statement.{statement}
 use Rattle.session.proofs.common.load_stands.Tie as tie
 

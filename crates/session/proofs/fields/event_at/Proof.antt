@@ -7,9 +7,9 @@ use lib.Dec.{eqb}
 use denote.Ref.{now}
 use Rattle.rules.specs.declared.Event.the-variants.{PowerUp, Write, Read, Signal}
 use Rattle.rules.proofs.Choice.{cond-true, cond-false}
-use Rattle.files.specs.File.{signalOf, eventAt, eventOf}
-use Rattle.files.specs.Laws.{powerUp, write, read}
-use Rattle.files.proofs.Lengths.{record-room}
+use Rattle.file_rules.specs.File.{signalOf, eventAt, eventOf}
+use Rattle.file_rules.specs.Laws.{powerUp, write, read}
+use Rattle.file_rules.proofs.Lengths.{record-room}
 use borrow.Author.Needs.{needs}
 use Rattle.session.proofs.fields.event_at.Statement.{statement}
 use Rattle.session.proofs.fields.event_at.Tie as tie

@@ -1,5 +1,5 @@
 use borrow.Author.Tests.{ne-eqb}
-use Rattle.voltage.specs.Volts.{factor}
+use Rattle.volt_rules.specs.Volts.{factor}
 use Rattle.volts.proofs.levels.factor_of.Statement.{statement}
 use Rattle.volts.proofs.levels.factor_of.Tie as tie
 

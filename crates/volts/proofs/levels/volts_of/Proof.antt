@@ -4,8 +4,8 @@ use native.Mathlib.Omega.{arith}
 use borrow.Author.Needs.{needs}
 use borrow.Author.Tests.{lt-ltb, le-ltb}
 use lib.Ieee.{neg}
-use Rattle.voltage.specs.Volts.{factor, voltsOf}
-use Rattle.voltage.proofs.Exact.{size-small}
+use Rattle.volt_rules.specs.Volts.{factor, voltsOf}
+use Rattle.volt_rules.proofs.Exact.{size-small}
 use Rattle.volts.proofs.levels.volts_of.Statement.{statement}
 use Rattle.volts.proofs.levels.volts_of.Tie as tie
 

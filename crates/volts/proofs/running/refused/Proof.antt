@@ -1,7 +1,7 @@
 use mathlib.Core.Path.{refl}
 use lib.Ieee.{ofBits}
-use Rattle.voltage.specs.Table.{channel, channelsFrom}
-use Rattle.voltage.specs.Extremes.{picked, lastOf}
+use Rattle.volt_rules.specs.Table.{channel, channelsFrom}
+use Rattle.volt_rules.specs.Extremes.{picked, lastOf}
 use Rattle.volts.proofs.running.refused.Statement.{statement}
 use Rattle.volts.proofs.running.refused.Tie as tie
 

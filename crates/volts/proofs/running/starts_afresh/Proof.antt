@@ -1,5 +1,5 @@
 use borrow.Author.Needs.{needs}
-use Rattle.voltage.specs.Counting.{isPowerUp}
+use Rattle.volt_rules.specs.Counting.{isPowerUp}
 use Rattle.volts.proofs.running.starts_afresh.Statement.{statement}
 use Rattle.volts.proofs.running.starts_afresh.Tie as tie
 

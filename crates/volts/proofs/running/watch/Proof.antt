@@ -1,7 +1,7 @@
 use Prim.Native.Nat.{ℕ}
 use mathlib.Core.Path.{_≡_, ap, _∙_, subst}
 use mathlib.Core.Bool.{true, false}
-use Rattle.voltage.specs.declared.Table.{Table}
+use Rattle.volt_rules.specs.declared.Table.{Table}
 use Rattle.volts.specs.Watching.{tableOf}
 use Rattle.volts.proofs.Watching.{waits, nothing-yet, something-yet}
 use Rattle.volts.proofs.running.watch.Statement.{statement}

@@ -4,7 +4,7 @@ use mathlib.Core.Path.{sym, ap, _∙_}
 use native.Mathlib.Omega.{arith}
 use denote.Ref.{now}
 use borrow.Author.Needs.{needs}
-use Rattle.files.specs.Writing.{rowRefusal}
+use Rattle.file_rules.specs.Writing.{rowRefusal}
 use Rattle.writer.specs.RowsFrom.{JudgesRow}
 use Rattle.writer.proofs.Loops.{row-judged}
 use Rattle.writer.proofs.judging.judge_row.Statement.{statement}

@@ -1,7 +1,7 @@
 -- `refusal_of` meets its contract: its tests are those of the rule, in its order, and the bytes that were counted are those of the session.
 use mathlib.Core.Path.{sym}
 use borrow.Author.Needs.{needs}
-use Rattle.files.proofs.WritesGiven.{part-refused}
+use Rattle.file_rules.proofs.WritesGiven.{part-refused}
 use Rattle.writer.proofs.Refusing.{row-refused, past-refused, short-refused, unrefused}
 use Rattle.writer.proofs.judging.refusal_of.Statement.{statement}
 use Rattle.writer.proofs.judging.refusal_of.Tie as tie

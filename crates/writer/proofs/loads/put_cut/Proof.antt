@@ -3,10 +3,10 @@ use Prim.Native.Nat.{_+_, _-_, _^_, _≤_, _<_}
 use native.Mathlib.Omega.{arith}
 use lib.ListN.{length}
 use denote.Ref.{now}
-use Rattle.files.proofs.Joined.{piece-length}
-use Rattle.cuts.specs.Cut.{Cut}
-use Rattle.cuts.proofs.ChosenNumbers.{mask-small}
-use Rattle.cuts.proofs.Given.{GoodCut, good-cut}
+use Rattle.file_rules.proofs.Joined.{piece-length}
+use Rattle.cut_rules.specs.Cut.{Cut}
+use Rattle.cut_rules.proofs.ChosenNumbers.{mask-small}
+use Rattle.cut_rules.proofs.Given.{GoodCut, good-cut}
 use Rattle.writer.specs.Promises.{cutOf}
 use Rattle.writer.proofs.Orders.{countable}
 use Rattle.writer.proofs.Cutting.{session-fits, first-within}

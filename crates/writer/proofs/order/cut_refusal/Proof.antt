@@ -7,8 +7,8 @@ use lib.ListN.{length}
 use denote.Ref.{now}
 use borrow.Author.Needs.{needs}
 use borrow.Author.Tests.{not-true, not-false}
-use Rattle.cuts.specs.Cut.{Cut, groups, isGrouped, isChoice}
-use Rattle.cuts.proofs.Given.{grouped-to, choice-to}
+use Rattle.cut_rules.specs.Cut.{Cut, groups, isGrouped, isChoice}
+use Rattle.cut_rules.proofs.Given.{grouped-to, choice-to}
 use Rattle.writer.specs.Promises.{cutOf}
 use Rattle.writer.proofs.Orders.{countable, ungrouped, unchosen, place-past, no-room, unrefused}
 use Rattle.writer.proofs.order.cut_refusal.Statement.{statement}

@@ -11,7 +11,7 @@ use denote.Ref.{now}
 use borrow.Author.Needs.{needs}
 use Rattle.rules.specs.Bits.{all}
 use Rattle.rules.proofs.Choice.{and-true}
-use Rattle.cuts.specs.Cut.{isChoice}
+use Rattle.cut_rules.specs.Cut.{isChoice}
 use Rattle.writer.proofs.order.is_choice.Statement.{statement}
 use Rattle.writer.proofs.order.is_choice.Tie as tie
 

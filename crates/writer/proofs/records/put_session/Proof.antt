@@ -5,11 +5,11 @@ use mathlib.Core.List.{List}
 use native.Mathlib.Omega.{arith}
 use lib.ListN.{length}
 use denote.Ref.{now}
-use Rattle.files.specs.Bytes.{bytesOf, fileOf}
-use Rattle.files.specs.Row.{eventOfRow}
-use Rattle.files.specs.Writing.{rowRefusal}
-use Rattle.files.proofs.Joined.{renamed, piece-length}
-use Rattle.files.proofs.WritesGiven.{good-call}
+use Rattle.file_rules.specs.Bytes.{bytesOf, fileOf}
+use Rattle.file_rules.specs.Row.{eventOfRow}
+use Rattle.file_rules.specs.Writing.{rowRefusal}
+use Rattle.file_rules.proofs.Joined.{renamed, piece-length}
+use Rattle.file_rules.proofs.WritesGiven.{good-call}
 use Rattle.writer.proofs.Loops.{row-there, Putting, putting-start, putting-next, putting-over, row-fits, row-unrefused}
 use Rattle.writer.proofs.records.put_session.Statement.{statement}
 use Rattle.writer.proofs.records.put_session.Tie as tie

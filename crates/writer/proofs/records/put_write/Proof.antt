@@ -5,9 +5,9 @@ use mathlib.Core.List.{[], _∷_, _++_}
 use native.Mathlib.Nat.{mod-eq-of-lt}
 use borrow.Author.Needs.{needs}
 use Rattle.rules.specs.declared.Event.the-variants.{Write as write}
-use Rattle.files.specs.File.{lengthOf}
-use Rattle.files.specs.Bytes.{two, four, bytesOf}
-use Rattle.files.proofs.Joined.{then, renamed}
+use Rattle.file_rules.specs.File.{lengthOf}
+use Rattle.file_rules.specs.Bytes.{two, four, bytesOf}
+use Rattle.file_rules.proofs.Joined.{then, renamed}
 use Rattle.writer.proofs.records.put_write.Statement.{statement}
 use Rattle.writer.proofs.records.put_write.Tie as tie
 

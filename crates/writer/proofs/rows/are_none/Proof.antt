@@ -3,7 +3,7 @@ use mathlib.Core.Path.{sym, _∙_}
 use mathlib.Core.Bool.{_&&_}
 use lib.Dec.{ltb}
 use Rattle.rules.proofs.Choice.{and-true}
-use Rattle.files.specs.Writing.{fitWidths}
+use Rattle.file_rules.specs.Writing.{fitWidths}
 use Rattle.writer.proofs.Widths.{none-told}
 use Rattle.writer.proofs.rows.are_none.Statement.{statement}
 use Rattle.writer.proofs.rows.are_none.Tie as tie

@@ -6,7 +6,7 @@ use native.Mathlib.Omega.{arith}
 use lib.Dec.{ltb}
 use borrow.Author.Needs.{needs}
 use borrow.Author.Tests.{lt-ltb, ne-eqb}
-use Rattle.files.specs.Writing.{widths, fitWidths}
+use Rattle.file_rules.specs.Writing.{widths, fitWidths}
 use Rattle.writer.proofs.Widths.{none-told}
 use Rattle.writer.proofs.rows.fits_widths.Statement.{statement}
 use Rattle.writer.proofs.rows.fits_widths.Tie as tie

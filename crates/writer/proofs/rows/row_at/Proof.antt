@@ -8,8 +8,8 @@ use lib.ListN.{length, getD, drop, length-drop}
 use lib.Seq.{getD-take, getD-drop, length-take-le}
 use borrow.Author.Needs.{needs}
 use denote.Ref.{now}
-use Rattle.files.specs.Row.{field}
-use Rattle.files.proofs.RowsGiven.{row-numbers}
+use Rattle.file_rules.specs.Row.{field}
+use Rattle.file_rules.proofs.RowsGiven.{row-numbers}
 use Rattle.writer.specs.RowsFrom.{rowAt}
 use Rattle.writer.proofs.rows.row_at.Statement.{statement}
 use Rattle.writer.proofs.rows.row_at.Tie as tie

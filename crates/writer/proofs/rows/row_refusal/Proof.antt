@@ -11,10 +11,10 @@ use borrow.Author.Needs.{needs}
 use borrow.Author.Tests.{eq-eqb, ne-eqb}
 use Rattle.rules.specs.Refusals.{firstOf}
 use Rattle.rules.proofs.Choice.{cond-true, cond-false}
-use Rattle.files.specs.File.{lengthOf}
-use Rattle.files.specs.Row.{field}
-use Rattle.files.specs.Writing.{widths, fitWidths, rowRefusal}
-use Rattle.files.proofs.RowsGiven.{row-numbers}
+use Rattle.file_rules.specs.File.{lengthOf}
+use Rattle.file_rules.specs.Row.{field}
+use Rattle.file_rules.specs.Writing.{widths, fitWidths, rowRefusal}
+use Rattle.file_rules.proofs.RowsGiven.{row-numbers}
 use Rattle.writer.proofs.rows.row_refusal.Statement.{statement}
 use Rattle.writer.proofs.rows.row_refusal.Tie as tie
 

@@ -1,8 +1,0 @@
--- A file with a record of each kind, by computation.
-use mathlib.Core.Path.{refl}
-use Rattle.files.specs.File.{lengthOf, signalOf, eventOf, eventAt, wholeRecord, recordAt, itemAt, from, session}
-use Rattle.files.specs.Laws.{Every-kind}
-
-pub every-kind : Every-kind
-unfolding lengthOf signalOf eventOf eventAt wholeRecord recordAt itemAt from session
-every-kind = record { events = refl; end = refl }

@@ -1,8 +1,0 @@
--- Items in numbers, by computation (specs/Numbers).
-use mathlib.Core.Path.{refl}
-use Rattle.files.specs.File.{faultNumber, lengthOf, signalOf, eventOf, eventAt, wholeRecord, recordAt, itemAt}
-use Rattle.files.specs.Numbers.{Items-in-numbers}
-
-pub items-in-numbers : Items-in-numbers
-unfolding faultNumber lengthOf signalOf eventOf eventAt wholeRecord recordAt itemAt
-items-in-numbers = record { first = refl; later = refl; end = refl; cut = refl }
