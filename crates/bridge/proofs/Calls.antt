@@ -12,17 +12,19 @@ use Rattle.rules.specs.Told.{Told}
 use Rattle.board.specs.Promises.{Stepped}
 use Rattle.board.specs.declared.Reply.{Reply}
 use Rattle.file_rules.specs.Row.{eventOfRow}
-use Rattle.layout.specs.Layout.{boardAt, boardRow, toldOf}
-use Rattle.rows.specs.Promises.{rowWritten}
+use Rattle.rows.specs.Places.{rowLong}
+use Rattle.rows.specs.Reading.{boardAt}
+use Rattle.rows.specs.Writing.{boardRow}
+use Rattle.rows.specs.Promises.{toldOf, rowWritten}
 use Rattle.bridge.specs.Types.{Board, Event}
 use Rattle.bridge.specs.Calls.{Left, callStatus, answerRow, leftBy, left}
 use Rattle.bridge.specs.Promises.{Called}
 
-pub row-written : (b : Board) (row : List ℕ) → length row ≡ 55 → rowWritten b row ≡ boardRow b
+pub row-written : (b : Board) (row : List ℕ) → length row ≡ rowLong → rowWritten b row ≡ boardRow b
 unfolding rowWritten
 row-written b row long = rw (eq-eqb _ _ long)
 
-pub read-whole : (row : List ℕ) (b : Board) → length row ≡ 55 → Told (toldOf row) b → b ≡ boardAt row
+pub read-whole : (row : List ℕ) (b : Board) → length row ≡ rowLong → Told (toldOf row) b → b ≡ boardAt row
 unfolding toldOf
 read-whole row b long told = told .told ∙ rw (eq-eqb _ _ long)
 
@@ -41,7 +43,7 @@ understood-left r m e a z = rw z
 -- the record, the event and the step are those of the row and of the numbers
 module _ (r m e a r′ m′ a′ : List ℕ) (b : Board) (ev : Event) (y : Reply) where
   pub understood :
-      callStatus (length r) e (length a) ≡ 0 → length r ≡ 55 → Told (toldOf r) b → ev ≡ eventOfRow e → Stepped b m ev y m′
+      callStatus (length r) e (length a) ≡ 0 → length r ≡ rowLong → Told (toldOf r) b → ev ≡ eventOfRow e → Stepped b m ev y m′
       → a′ ≡ answerRow (y .answer) → r′ ≡ cond (eqb (y .answer .refusal) 0) (boardRow (y .board)) r
       → Called r m e a 0 r′ m′ a′
   understood z long told ee s pa pr =

@@ -11,12 +11,14 @@ use Rattle.rules.specs.Step.{Outcome, step}
 use Rattle.rules.specs.Rates.{rates}
 use Rattle.rules.specs.Record.{stateOf}
 use Rattle.file_rules.specs.Row.{eventOfRow}
-use Rattle.layout.specs.Layout.{at, boardAt, boardRow}
+use Rattle.rows.specs.Places.{rowLong}
+use Rattle.rows.specs.Reading.{at, boardAt}
+use Rattle.rows.specs.Writing.{boardRow}
 use Rattle.bridge.specs.Types.{Answer, Figures}
 
 -- the lengths of a call that is looked at
 pub record CallFits (row : ℕ) (e : List ℕ) (answer : ℕ) : Type 0 where
-  pub record-long : row ≡ 55
+  pub record-long : row ≡ rowLong
   pub event-long : length e ≡ 6
   pub answer-long : answer ≡ 4
 
@@ -24,7 +26,7 @@ pub record CallFits (row : ℕ) (e : List ℕ) (answer : ℕ) : Type 0 where
 -- kind of event; 0 it is understood
 unfoldable pub callStatus : ℕ → List ℕ → ℕ → ℕ
 callStatus row e answer =
-    cond (not (eqb row 55)) 1
+    cond (not (eqb row rowLong)) 1
     (cond (not (eqb (length e) 6)) 2
     (cond (not (eqb answer 4)) 3
     (cond (ltb (at e 0) 1 || ltb 9 (at e 0)) 4 0)))
@@ -59,7 +61,7 @@ left row memory e answer =
 -- why a rate question is not understood, by the numbers that `callStatus` has for it: 1 the record, 3 the room for the figures is
 -- of another length; 0 it is understood, whatever the record is
 unfoldable pub rateStatus : ℕ → ℕ → ℕ
-rateStatus row figures = cond (not (eqb row 55)) 1 (cond (not (eqb figures 3)) 3 0)
+rateStatus row figures = cond (not (eqb row rowLong)) 1 (cond (not (eqb figures 3)) 3 0)
 
 abbrev pub figuresRow : Figures → List ℕ
 figuresRow f = f .refusal ∷ f .reference ∷ f .rate ∷ []

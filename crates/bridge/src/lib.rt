@@ -4,15 +4,17 @@ ghost use mathlib.Core.Path.{_≡_};
 ghost use mathlib.Core.Bool.{cond};
 ghost use lib.Dec.{eqb};
 ghost use lib.ListN.{length};
-ghost use Rattle.layout.specs.Layout.{boardRow};
+ghost use Rattle.rows.specs.Places.{rowLong};
+ghost use Rattle.rows.specs.Writing.{boardRow};
 ghost use Rattle.bridge.specs.Calls.{CallFits, callStatus, answerRow};
 ghost use Rattle.bridge.specs.Promises.{Called, RateCalled};
 use crate::events::row_event;
 use crate::figures::put_figures;
 use board::Reply;
 use board::step;
-use layout::board_at;
 use rates::rate;
+use rows::ROW_LONG;
+use rows::board_at;
 use rows::put_board;
 use rules::Board;
 
@@ -23,7 +25,7 @@ mod figures;
 fn status_of(row: usize, event: &[u32], answer: usize) -> u32
     ensures { λ r. ⌜ (r ≡ callStatus row (now (event .entry)) answer) × (r ≡ 0 → CallFits row (now (event .entry)) answer) ⌝ }
 {
-    if row != 55 {
+    if row != ROW_LONG {
         return 1;
     }
     if event.len() != 6 {
@@ -41,7 +43,7 @@ fn status_of(row: usize, event: &[u32], answer: usize) -> u32
 
 // 01: "the given record comes back": a refused event leaves the row alone, and does not write it anew.
 fn give_back(refusal: u32, b: Board, row: &mut [u32])
-    requires { ⌜ length (now row) ≡ 55 ⌝ }
+    requires { ⌜ length (now row) ≡ rowLong ⌝ }
     ensures { λ _. ⌜ now (row .exit) ≡ cond (eqb refusal 0) (boardRow b) (now (row .entry)) ⌝ }
 {
     if refusal == 0 {
@@ -50,7 +52,7 @@ fn give_back(refusal: u32, b: Board, row: &mut [u32])
 }
 
 fn put_reply(reply: Reply, row: &mut [u32], answer: &mut [u32])
-    requires { ⌜ (length (now row) ≡ 55) × (length (now answer) ≡ 4) ⌝ }
+    requires { ⌜ (length (now row) ≡ rowLong) × (length (now answer) ≡ 4) ⌝ }
     ensures { λ _. ⌜ (now (row .exit) ≡ cond (eqb (reply .answer .refusal) 0) (boardRow (reply .board)) (now (row .entry))) × (now (answer .exit) ≡ answerRow (reply .answer)) ⌝ }
 {
     let a = reply.answer;
@@ -85,7 +87,7 @@ pub extern "C" fn nergutsai_event(
 pub extern "C" fn nergutsai_rate(row: &[u32], figures: &mut [u32]) -> u32
     ensures { λ r. ⌜ RateCalled (now (row .entry)) (now (figures .entry)) r (now (figures .exit)) ⌝ }
 {
-    if row.len() != 55 {
+    if row.len() != ROW_LONG {
         return 1;
     }
     if figures.len() != 3 {

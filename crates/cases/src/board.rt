@@ -3,7 +3,7 @@ ghost use Rattle.io.specs.Counts.{Counts};
 use crate::desk::Desk;
 use bridge::nergutsai_event;
 
-// A number of the row is set. They are numbered as in crates/layout/specs/Layout.antt.
+// A number of the row is set. They are numbered as in crates/rows/specs/Places.antt.
 pub(crate) fn set(mut desk: Desk) -> Desk {
     let at = desk.numbers[0];
     let value = desk.numbers[1];

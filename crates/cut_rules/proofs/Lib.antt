@@ -11,6 +11,3 @@ pub mod Plays
 pub mod Shipped
 pub mod PlaysAtSize
 pub mod Examples
-pub mod Instances
-pub mod InstancesAtSize
-pub mod InstancesOfLaws

@@ -3,6 +3,3 @@ pub mod Laws
 pub mod Plays
 pub mod PlaysAtSize
 pub mod Examples
-pub mod Instances
-pub mod InstancesAtSize
-pub mod InstancesOfLaws

@@ -7,4 +7,3 @@ pub mod Demand3
 pub mod Premises
 pub mod Computed
 pub mod Examples
-pub mod Instances

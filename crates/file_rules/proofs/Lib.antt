@@ -14,4 +14,3 @@ pub mod RowsGiven
 pub mod WritesGiven
 pub mod WriteRead
 pub mod WriteExamples
-pub mod Instances

@@ -7,4 +7,3 @@ pub mod Pieces
 pub mod Writing
 pub mod WritingLaws
 pub mod Examples
-pub mod Instances

@@ -2,38 +2,39 @@
 --   markOf c next x   what a character says, the next one seen; x: it stands in a comment
 --   hexReading t      the bytes that a text says, up to its end or to the place at which it is no hex text
 use Prim.Native.Nat.{ℕ, zero, suc, _+_, _*_, _-_}
+use Prim.Native.Char.{code}
 use mathlib.Core.Bool.{Bool, true, false, cond, not, _&&_, _||_}
 use mathlib.Core.List.{List, [], _∷_}
 use lib.Dec.{leb, ltb, eqb}
 use lib.ListN.{length, getD}
+use Rattle.basics.specs.Ascii.{nul, tab, newline, return, space}
 use Rattle.hex_rules.specs.declared.Mark.{Mark}
 use Rattle.hex_rules.specs.declared.Mark.the-variants.{Passed, Byte, Fault}
 
 -- ---- Characters
 
--- 0 past the end of the text
+-- NUL past the end of the text
 abbrev pub charAt : List ℕ → ℕ → ℕ
-charAt t at = getD t at 0
+charAt t at = getD t at nul
 
--- "0" to "9", "A" to "F", "a" to "f"; 16 for any other character
+-- "A" and "a" are 10; 16 for any other character
 unfoldable pub hexWorth : ℕ → ℕ
 hexWorth c =
-    cond (leb 48 c && leb c 57) (c - 48)
-    (cond (leb 65 c && leb c 70) (c - 55)
-    (cond (leb 97 c && leb c 102) (c - 87) 16))
+    cond (leb (code "0") c && leb c (code "9")) (c - code "0")
+    (cond (leb (code "A") c && leb c (code "F")) (c - (code "A" - 10))
+    (cond (leb (code "a") c && leb c (code "f")) (c - (code "a" - 10)) 16))
 
--- Below 32, and 127: no editor shows them. A tab (9), a new line (10) and a carriage return right before a new line (13) are no such
--- characters; a carriage return elsewhere is, since some programs end a line there.
+-- Below the space, and 127: no editor shows them. A tab, a new line and a carriage return right before a new line are no such characters; a carriage return elsewhere is, since some programs end a line there.
 abbrev pub isControl : ℕ → ℕ → Bool
-isControl c next = (ltb c 32 && not ((eqb c 9 || eqb c 10) || (eqb c 13 && eqb next 10))) || eqb c 127
+isControl c next = (ltb c space && not ((eqb c tab || eqb c newline) || (eqb c return && eqb next newline))) || eqb c 127
 
 -- a space, a tab, and what ends a line
 abbrev pub isBlank : ℕ → Bool
-isBlank c = ((eqb c 32 || eqb c 9) || eqb c 10) || eqb c 13
+isBlank c = ((eqb c space || eqb c tab) || eqb c newline) || eqb c return
 
--- from `#` (35) up to the new line
+-- from `#` up to the new line
 abbrev pub inComment : Bool → ℕ → Bool
-inComment before c = (before || eqb c 35) && not (eqb c 10)
+inComment before c = (before || eqb c (code "#")) && not (eqb c newline)
 
 -- two digits, the first the more significant
 unfoldable pub byteOf : ℕ → ℕ → Mark

@@ -1,4 +1,3 @@
 pub mod Hex
 pub mod HexTable
 pub mod Laws
-pub mod Instances

@@ -4,7 +4,8 @@ use mathlib.Core.Path.{_≡_, refl, sym, ap, _∙_}
 use mathlib.Core.List.{List, [], _∷_, _++_, append-assoc}
 use borrow.Author.Tests.{eq-eqb, ne-eqb}
 use Rattle.rules.specs.declared.Answer.{Answer}
-use Rattle.listing_rules.specs.Text.{space, newline, decimal, decimalIn, hex, line, levelsLine, fileLine, tail}
+use Rattle.basics.specs.Ascii.{newline, space}
+use Rattle.listing_rules.specs.Text.{decimal, decimalIn, hex, line, levelsLine, fileLine, tail}
 use Rattle.file_rules.specs.Pieces.{Piece}
 use Rattle.lines.specs.Pieces.{rest}
 use Rattle.file_rules.proofs.Joined.{then, renamed}

@@ -2,5 +2,6 @@
 pub mod Body
 pub mod Walking
 pub mod Answers
+pub mod Listings
 pub mod Unique
 pub mod AtOnce

@@ -3,6 +3,7 @@ ghost use Rattle.listing.specs.Promises.{Lists};
 use crate::whole::put_body;
 use lines::put_text;
 
+mod exported;
 mod hurry;
 mod parts;
 mod shortcuts;

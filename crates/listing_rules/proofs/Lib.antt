@@ -7,5 +7,4 @@ pub mod Cutting
 pub mod LinesListed
 pub mod LineSays
 pub mod Left
-pub mod Instances
 pub mod Lengths

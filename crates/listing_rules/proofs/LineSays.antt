@@ -6,7 +6,8 @@ use native.Mathlib.Omega.{arith}
 use lib.Dec.{ltb}
 use lib.ListN.{length, getD, length-append}
 use Rattle.rules.proofs.Choice.{either}
-use Rattle.listing_rules.specs.Text.{space, newline, levelsHead, decimal, decimalIn, hex, line, levelsIn, levelsLine}
+use Rattle.basics.specs.Ascii.{newline, space}
+use Rattle.listing_rules.specs.Text.{levelsHead, decimal, decimalIn, hex, line, levelsIn, levelsLine}
 use Rattle.listing_rules.specs.LineLaws.{cutBehind, InDecimal, Line-says, LevelsSaid, last, level, Levels-say}
 use Rattle.listing_rules.proofs.Numbers.{decimal-said, decimal-plain, hex-said, hex-long}
 use Rattle.listing_rules.proofs.Cutting.{Without, end, lacks, without-given, piece-behind, cut-piece, cut-rest, decimal-without, hex-without}

@@ -15,8 +15,8 @@ use Rattle.file_rules.specs.declared.Fault.the-variants.{Version, Cut, Length, 
 use Rattle.file_rules.specs.declared.End.{End}
 use Rattle.file_rules.specs.declared.End.the-variants.{File, Refused}
 use Rattle.file_rules.specs.File.{faultNumber, session}
-use Rattle.listing_rules.specs.Ascii.{ascii}
-use Rattle.listing_rules.specs.Text.{space, newline, heading, fileHead, levelsHead, decimal, hex, line, levelsIn, levelsLine, fileLine, tail}
+use Rattle.basics.specs.Ascii.{ascii, newline, space}
+use Rattle.listing_rules.specs.Text.{heading, fileHead, levelsHead, decimal, hex, line, levelsIn, levelsLine, fileLine, tail}
 use Rattle.listing_rules.specs.Listing.{lines, levelsOf, ending, listing}
 use Rattle.listing_rules.specs.LineLaws.{cutBehind, linesIn, outcomeLine, Lines-listed}
 use Rattle.listing_rules.proofs.Cutting.{Without, also, OnePiece, end, lacks, without-both, without-given}

@@ -9,7 +9,8 @@ use lib.Dec.{ltb}
 use lib.ListN.{length, getD, length-append}
 use borrow.Author.Tests.{ltb-true, ltb-false, lt-ltb, le-ltb}
 use Rattle.rules.proofs.Choice.{cases, either}
-use Rattle.listing_rules.specs.Text.{space, digit, capital, decimal, decimalIn, hex}
+use Rattle.basics.specs.Ascii.{space}
+use Rattle.listing_rules.specs.Text.{digit, capital, decimal, decimalIn, hex}
 use Rattle.listing_rules.specs.Laws.{worth, said, Decimal-said, Decimal-plain, Hex-said, Hex-long}
 
 -- ---- Lengths

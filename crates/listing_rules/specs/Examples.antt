@@ -4,7 +4,7 @@ use Prim.Native.Nat.{ℕ}
 use mathlib.Core.Path.{_≡_}
 use mathlib.Core.List.{List, [], _∷_, _++_}
 use lib.ListN.{replicate}
-use Rattle.listing_rules.specs.Ascii.{ascii}
+use Rattle.basics.specs.Ascii.{ascii}
 use Rattle.listing_rules.specs.Listing.{text, memoryAfter}
 use Rattle.listing_rules.specs.Laws.{scope}
 

@@ -3,10 +3,10 @@
 use Prim.Native.Nat.{ℕ, zero, _+_, _*_, _-_, _^_, _≤_, _<_}
 use mathlib.Core.Path.{_≡_}
 use mathlib.Core.Bool.{cond}
-use mathlib.Core.List.{List, [], _∷_}
+use mathlib.Core.List.{List, [], _∷_, _++_}
 use lib.Dec.{ltb}
 use lib.ListN.{length, getD}
-use Rattle.listing_rules.specs.Ascii.{ascii}
+use Rattle.basics.specs.Ascii.{ascii}
 use Rattle.listing_rules.specs.Text.{decimal, hex, tail}
 use Rattle.listing_rules.specs.Listing.{listing, text}
 
@@ -32,16 +32,15 @@ Hex-said = (k n : ℕ) → n < 16 ^ k → said 16 0 (hex k n) ≡ n
 abbrev pub Hex-long : Type 0
 Hex-long = (k n : ℕ) → length (hex k n) ≡ k
 
--- "FILE 12 305", "LEVELS 0000 BEEF"
 abbrev pub Tail-refused : Type 0
 Tail-refused =
     tail 12 305 (0x0000 ∷ 0xBEEF ∷ [])
-    ≡ 70 ∷ 73 ∷ 76 ∷ 69 ∷ 32 ∷ 49 ∷ 50 ∷ 32 ∷ 51 ∷ 48 ∷ 53 ∷ 10 ∷
-    76 ∷ 69 ∷ 86 ∷ 69 ∷ 76 ∷ 83 ∷ 32 ∷ 48 ∷ 48 ∷ 48 ∷ 48 ∷ 32 ∷ 66 ∷ 69 ∷ 69 ∷ 70 ∷ 10 ∷ []
+    ≡ ascii "FILE 12 305\n"
+    ++ ascii "LEVELS 0000 BEEF\n"
 
--- "LEVELS BEEF": no refusal, and no line of one
+-- no refusal, and no line of one
 abbrev pub Tail-plain : Type 0
-Tail-plain = tail 0 0 (0xBEEF ∷ []) ≡ 76 ∷ 69 ∷ 86 ∷ 69 ∷ 76 ∷ 83 ∷ 32 ∷ 66 ∷ 69 ∷ 69 ∷ 70 ∷ 10 ∷ []
+Tail-plain = tail 0 0 (0xBEEF ∷ []) ≡ ascii "LEVELS BEEF\n"
 
 -- 01's example: a power-up, two channels, two loads, a tick and a read of the buffer register
 abbrev pub scope : List ℕ
@@ -56,29 +55,27 @@ scope =
     ∷ 0x00 ∷ 0x02 ∷ 0x03 ∷ 0x0C
     ∷ []
 
--- "REHEARSAL 1", seven lines, "LEVELS 9000 8000 .."; on a board with room for eight values
+-- on a board with room for eight values
 abbrev pub Scope-listed : Type 0
 Scope-listed =
     text scope (0 ∷ 0 ∷ 0 ∷ 0 ∷ 0 ∷ 0 ∷ 0 ∷ 0 ∷ [])
-    ≡ 82 ∷ 69 ∷ 72 ∷ 69 ∷ 65 ∷ 82 ∷ 83 ∷ 65 ∷ 76 ∷ 32 ∷ 49 ∷ 10
-    ∷ 49 ∷ 32 ∷ 48 ∷ 32 ∷ 48 ∷ 48 ∷ 48 ∷ 48 ∷ 48 ∷ 48 ∷ 48 ∷ 48 ∷ 32 ∷ 48 ∷ 32 ∷ 48 ∷ 32 ∷ 48 ∷ 10
-    ∷ 50 ∷ 32 ∷ 48 ∷ 32 ∷ 48 ∷ 48 ∷ 48 ∷ 48 ∷ 48 ∷ 48 ∷ 48 ∷ 48 ∷ 32 ∷ 48 ∷ 32 ∷ 48 ∷ 32 ∷ 48 ∷ 10
-    ∷ 51 ∷ 32 ∷ 48 ∷ 32 ∷ 48 ∷ 48 ∷ 48 ∷ 48 ∷ 48 ∷ 48 ∷ 48 ∷ 48 ∷ 32 ∷ 48 ∷ 32 ∷ 48 ∷ 32 ∷ 48 ∷ 10
-    ∷ 52 ∷ 32 ∷ 48 ∷ 32 ∷ 48 ∷ 48 ∷ 48 ∷ 48 ∷ 48 ∷ 48 ∷ 48 ∷ 48 ∷ 32 ∷ 48 ∷ 32 ∷ 49 ∷ 32 ∷ 49 ∷ 10
-    ∷ 53 ∷ 32 ∷ 48 ∷ 32 ∷ 48 ∷ 48 ∷ 48 ∷ 48 ∷ 48 ∷ 48 ∷ 48 ∷ 48 ∷ 32 ∷ 48 ∷ 32 ∷ 49 ∷ 32 ∷ 50 ∷ 10
-    ∷ 54 ∷ 32 ∷ 48 ∷ 32 ∷ 48 ∷ 48 ∷ 48 ∷ 48 ∷ 48 ∷ 48 ∷ 48 ∷ 48 ∷ 32 ∷ 49 ∷ 32 ∷ 48 ∷ 32 ∷ 49 ∷ 10
-    ∷ 55 ∷ 32 ∷ 48 ∷ 32 ∷ 48 ∷ 48 ∷ 48 ∷ 48 ∷ 50 ∷ 52 ∷ 50 ∷ 48 ∷ 32 ∷ 48 ∷ 32 ∷ 48 ∷ 32 ∷ 49 ∷ 10
-    ∷ 76 ∷ 69 ∷ 86 ∷ 69 ∷ 76 ∷ 83 ∷ 32 ∷ 57 ∷ 48 ∷ 48 ∷ 48 ∷ 32 ∷ 56 ∷ 48 ∷ 48 ∷ 48 ∷ 32 ∷ 56 ∷ 48 ∷ 48 ∷ 48 ∷ 32 ∷ 56 ∷ 48 ∷ 48 ∷ 48 ∷ 32 ∷ 56 ∷ 48 ∷ 48 ∷ 48 ∷ 32 ∷ 56 ∷ 48 ∷ 48 ∷ 48 ∷ 32 ∷ 56 ∷ 48 ∷ 48 ∷ 48 ∷ 32 ∷ 56 ∷ 48 ∷ 48 ∷ 48 ∷ 32 ∷ 56 ∷ 48 ∷ 48 ∷ 48 ∷ 32 ∷ 56 ∷ 48 ∷ 48 ∷ 48 ∷ 32 ∷ 56 ∷ 48 ∷ 48 ∷ 48 ∷ 32 ∷ 56 ∷ 48 ∷ 48 ∷ 48 ∷ 32 ∷ 56 ∷ 48 ∷ 48 ∷ 48 ∷ 32 ∷ 56 ∷ 48 ∷ 48 ∷ 48 ∷ 32 ∷ 56 ∷ 48 ∷ 48 ∷ 48 ∷ 32 ∷ 56 ∷ 48 ∷ 48 ∷ 48 ∷ 32 ∷ 56 ∷ 48 ∷ 48 ∷ 48 ∷ 32 ∷ 56 ∷ 48 ∷ 48 ∷ 48 ∷ 32 ∷ 56 ∷ 48 ∷ 48 ∷ 48 ∷ 32 ∷ 56 ∷ 48 ∷ 48 ∷ 48 ∷ 10
-    ∷ []
+    ≡ ascii "REHEARSAL 1\n"
+    ++ ascii "1 0 00000000 0 0 0\n"
+    ++ ascii "2 0 00000000 0 0 0\n"
+    ++ ascii "3 0 00000000 0 0 0\n"
+    ++ ascii "4 0 00000000 0 1 1\n"
+    ++ ascii "5 0 00000000 0 1 2\n"
+    ++ ascii "6 0 00000000 1 0 1\n"
+    ++ ascii "7 0 00002420 0 0 1\n"
+    ++ ascii "LEVELS 9000 8000 8000 8000 8000 8000 8000 8000 8000 8000 8000 8000 8000 8000 8000 8000 8000 8000 8000 8000\n"
 
 -- a file that ends inside its first record, at byte 1: "FILE 11 1" on a board that was never powered
 abbrev pub Cut-listed : Type 0
 Cut-listed =
     text (0x01 ∷ 0x00 ∷ []) []
-    ≡ 82 ∷ 69 ∷ 72 ∷ 69 ∷ 65 ∷ 82 ∷ 83 ∷ 65 ∷ 76 ∷ 32 ∷ 49 ∷ 10
-    ∷ 70 ∷ 73 ∷ 76 ∷ 69 ∷ 32 ∷ 49 ∷ 49 ∷ 32 ∷ 49 ∷ 10
-    ∷ 76 ∷ 69 ∷ 86 ∷ 69 ∷ 76 ∷ 83 ∷ 32 ∷ 48 ∷ 48 ∷ 48 ∷ 48 ∷ 32 ∷ 48 ∷ 48 ∷ 48 ∷ 48 ∷ 32 ∷ 48 ∷ 48 ∷ 48 ∷ 48 ∷ 32 ∷ 48 ∷ 48 ∷ 48 ∷ 48 ∷ 32 ∷ 48 ∷ 48 ∷ 48 ∷ 48 ∷ 32 ∷ 48 ∷ 48 ∷ 48 ∷ 48 ∷ 32 ∷ 48 ∷ 48 ∷ 48 ∷ 48 ∷ 32 ∷ 48 ∷ 48 ∷ 48 ∷ 48 ∷ 32 ∷ 48 ∷ 48 ∷ 48 ∷ 48 ∷ 32 ∷ 48 ∷ 48 ∷ 48 ∷ 48 ∷ 32 ∷ 48 ∷ 48 ∷ 48 ∷ 48 ∷ 32 ∷ 48 ∷ 48 ∷ 48 ∷ 48 ∷ 32 ∷ 48 ∷ 48 ∷ 48 ∷ 48 ∷ 32 ∷ 48 ∷ 48 ∷ 48 ∷ 48 ∷ 32 ∷ 48 ∷ 48 ∷ 48 ∷ 48 ∷ 32 ∷ 48 ∷ 48 ∷ 48 ∷ 48 ∷ 32 ∷ 48 ∷ 48 ∷ 48 ∷ 48 ∷ 32 ∷ 48 ∷ 48 ∷ 48 ∷ 48 ∷ 32 ∷ 48 ∷ 48 ∷ 48 ∷ 48 ∷ 32 ∷ 48 ∷ 48 ∷ 48 ∷ 48 ∷ 10
-    ∷ []
+    ≡ ascii "REHEARSAL 1\n"
+    ++ ascii "FILE 11 1\n"
+    ++ ascii "LEVELS 0000 0000 0000 0000 0000 0000 0000 0000 0000 0000 0000 0000 0000 0000 0000 0000 0000 0000 0000 0000\n"
 
 -- 01: "(at most 65,536 bytes ..)"; "A longer input prints only `TOO LONG`."
 abbrev pub Too-long : Type 0

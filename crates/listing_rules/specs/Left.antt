@@ -13,7 +13,7 @@ use Rattle.file_rules.specs.declared.End.the-variants.{Refused}
 use Rattle.file_rules.specs.declared.Item.the-variants.{Over}
 use Rattle.file_rules.specs.Bytes.{fileOf, AllFit}
 use Rattle.file_rules.specs.File.{faultNumber, itemAt}
-use Rattle.listing_rules.specs.Ascii.{ascii}
+use Rattle.basics.specs.Ascii.{ascii}
 use Rattle.listing_rules.specs.Text.{decimal, levelsLine}
 use Rattle.listing_rules.specs.Listing.{levelsOf, text, memoryAfter}
 

@@ -1,8 +1,6 @@
-pub mod Ascii
 pub mod Text
 pub mod Listing
 pub mod Laws
 pub mod LineLaws
 pub mod Left
 pub mod Examples
-pub mod Instances

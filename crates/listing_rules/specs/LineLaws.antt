@@ -18,8 +18,8 @@ use Rattle.rules.specs.Session.{after}
 use Rattle.file_rules.specs.declared.Fault.{Fault}
 use Rattle.file_rules.specs.declared.End.the-variants.{File, Refused}
 use Rattle.file_rules.specs.File.{faultNumber, session}
-use Rattle.listing_rules.specs.Ascii.{ascii}
-use Rattle.listing_rules.specs.Text.{space, newline, decimal, line, levelsLine}
+use Rattle.basics.specs.Ascii.{ascii, newline, space}
+use Rattle.listing_rules.specs.Text.{decimal, line, levelsLine}
 use Rattle.listing_rules.specs.Listing.{levelsOf, listing}
 use Rattle.listing_rules.specs.Laws.{said}
 

@@ -9,6 +9,7 @@ use Prim.Native.Nat.{ℕ, zero, suc, _+_, _/_, _%_}
 use mathlib.Core.Bool.{cond}
 use mathlib.Core.List.{List, [], _∷_, _++_}
 use lib.Dec.{eqb, ltb}
+use Rattle.basics.specs.Ascii.{ascii, newline, space}
 use Rattle.rules.specs.declared.Answer.{Answer}
 
 -- ---- Numbers
@@ -36,27 +37,17 @@ hex (suc k) n = hex k (n / 16) ++ capital (n % 16) ∷ []
 
 -- ---- Fixed texts
 
-abbrev pub space : ℕ
-space = 32
-
-abbrev pub newline : ℕ
-newline = 10
-
--- "REHEARSAL 1" and a newline
 abbrev pub heading : List ℕ
-heading = 82 ∷ 69 ∷ 72 ∷ 69 ∷ 65 ∷ 82 ∷ 83 ∷ 65 ∷ 76 ∷ 32 ∷ 49 ∷ 10 ∷ []
+heading = ascii "REHEARSAL 1\n"
 
--- "FILE "
 abbrev pub fileHead : List ℕ
-fileHead = 70 ∷ 73 ∷ 76 ∷ 69 ∷ 32 ∷ []
+fileHead = ascii "FILE "
 
--- "LEVELS"
 abbrev pub levelsHead : List ℕ
-levelsHead = 76 ∷ 69 ∷ 86 ∷ 69 ∷ 76 ∷ 83 ∷ []
+levelsHead = ascii "LEVELS"
 
--- "TOO LONG" and a newline
 abbrev pub tooLong : List ℕ
-tooLong = 84 ∷ 79 ∷ 79 ∷ 32 ∷ 76 ∷ 79 ∷ 78 ∷ 71 ∷ 10 ∷ []
+tooLong = ascii "TOO LONG\n"
 
 -- ---- Lines
 

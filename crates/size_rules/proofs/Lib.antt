@@ -6,4 +6,3 @@ pub mod Answered
 pub mod Theorems
 pub mod Laws
 pub mod Examples
-pub mod Instances

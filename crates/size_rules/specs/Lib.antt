@@ -3,4 +3,3 @@ pub mod Smallest
 pub mod Theorems
 pub mod Laws
 pub mod Examples
-pub mod Instances

@@ -8,6 +8,7 @@ use crate::replay::lowest_code;
 use file_rules::End;
 use kinds::fault_number;
 
+mod exported;
 mod replay;
 mod sized;
 

@@ -11,4 +11,3 @@ pub mod Theorems
 pub mod Open
 pub mod Examples
 pub mod FileTables
-pub mod Instances

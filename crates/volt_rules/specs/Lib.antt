@@ -6,4 +6,3 @@ pub mod Laws
 pub mod Examples
 pub mod FileTables
 pub mod Theorems
-pub mod Instances

@@ -4,4 +4,5 @@ pub mod Entries
 pub mod Watching
 pub mod Tabling
 pub mod OneRange
+pub mod Threes
 pub mod Unique

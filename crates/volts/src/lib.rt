@@ -16,6 +16,7 @@ use run::next;
 use volt_rules::Table;
 
 mod channel;
+mod exported;
 mod levels;
 mod running;
 

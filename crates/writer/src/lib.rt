@@ -6,6 +6,7 @@ use crate::loads::put_cut;
 use crate::order::cut_refusal;
 use crate::records::put_session;
 
+mod exported;
 mod judging;
 mod loads;
 mod order;

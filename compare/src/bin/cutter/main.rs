@@ -1,4 +1,4 @@
-//! Compares the cutters, the second model's with that of libquay.a, and plays what
+//! Compares the cutters, the second model's with that of libwriter.a, and plays what
 //! was written on the board of libbridge.a.
 
 mod board;
@@ -25,7 +25,7 @@ use lent::Lent;
 use tally::Tally;
 
 const HELP: &str = "\
-compare/cutter - the second model's cutter against libquay.a, and its cuts played
+compare/cutter - the second model's cutter against libwriter.a, and its cuts played
 
 usage: compare/cutter [--seed S] [--calls N] [--only INDEX] [--coverage]
                       [--help]

@@ -8,7 +8,7 @@ use borrow.Author.Tests.{eq-eqb, ne-eqb}
 use lib.Dec.{eqb}
 use lib.ListN.{length}
 use Rattle.rules.specs.Rates.{rates}
-use Rattle.layout.specs.Layout.{boardAt}
+use Rattle.rows.specs.Reading.{boardAt}
 use Rattle.bridge.specs.Calls.{rateStatus, figuresRow, figuresLeft}
 use Rattle.bridge.specs.Promises.{RateCalled}
 use Rattle.bridge.proofs.Calls.{read-whole}

@@ -1,7 +1,7 @@
 -- The record's row by its own call, the answer's entries one after another.
 use mathlib.Core.Path.{sym}
 use denote.Ref.{now}
-use Rattle.layout.proofs.Stores.{sets-whole}
+use Rattle.rows.proofs.Stores.{sets-whole}
 use Rattle.bridge.specs.Calls.{answerRow}
 use borrow.Author.Needs.{needs}
 use Rattle.bridge.proofs.put_reply.Statement.{statement}

@@ -1,6 +1,6 @@
 use mathlib.Core.Path.{sym}
 use denote.Ref.{now}
-use Rattle.layout.proofs.Stores.{sets-whole}
+use Rattle.rows.proofs.Stores.{sets-whole}
 use Rattle.bridge.specs.Calls.{figuresRow}
 use borrow.Author.Needs.{needs}
 use Rattle.bridge.proofs.figures.put_figures.Statement.{statement}

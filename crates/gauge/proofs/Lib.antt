@@ -1,2 +1,0 @@
--- What the function promises determines its outcome.
-pub mod Unique

@@ -1,2 +1,0 @@
--- What a function promises determines its outcome.
-pub mod Unique
