@@ -35,4 +35,4 @@ levels-again b h =
 
 pub round-trip : Round-trip
 unfolding boardAt coreAt boardRow
-round-trip b h = simp (flag-on, levels-again b h)
+round-trip b h = simp (flag-on, levels-again b h) refl

@@ -1,4 +1,4 @@
--- A board record read from a row: each field from its place. Any number but 0 is true, and a level is taken modulo 10000h.
+-- A board record read from a row: each field from its place (Places.antt). Any number but 0 is true, and a level is taken modulo 10000h.
 --   boardAt row   the record that a row says
 use Prim.Native.Nat.{ℕ, _%_}
 use mathlib.Core.Bool.{Bool, not}

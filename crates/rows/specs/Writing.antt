@@ -1,4 +1,5 @@
--- A board record written to a row: its fields in the order of their places, part by part, and the levels last. A bool is 0 or 1.
+-- A board record written to a row: its fields in the order of their places, part by part, and the levels last; `Round-trip` (Laws.antt)
+-- holds this order to Places.antt. A bool is 0 or 1.
 --   boardRow b   the row of a record
 use Prim.Native.Nat.{ℕ}
 use mathlib.Core.Bool.{Bool}

@@ -1,6 +1,8 @@
 -- The core and the size are what their functions read; all else is read in place.
 use borrow.Author.Needs.{needs}
-use Rattle.rows.specs.Reading.{boardAt}
+use denote.Ref.{now}
+use Rattle.rows.specs.Places as places
+use Rattle.rows.specs.Reading.{at, isOn, boardAt}
 use Rattle.rows.proofs.reading.board_in.Statement.{statement}
 use Rattle.rows.proofs.reading.board_in.Tie as tie
 
@@ -23,7 +25,14 @@ returns : tie.Need-returns
 unfolding boardAt
 returns c =
     let size = c .before .before .before in
-    rw (size .size-at .ensures, size .before .core-at .ensures)
+    let core = size .before in
+    let row = now (core .before .before .args .row) in
+    λ i. record {
+      core = core .core-at .ensures i;
+      size = size .size-at .ensures i;
+      request = isOn row places.request;
+      ring = record { first = at row places.first; count = at row places.count };
+    }
 
 pub board-in-spec : {M : Type 1} → statement M
 board-in-spec =

@@ -1,6 +1,10 @@
--- The entries one after another, each bool as its flag.
+-- The entries one after another, each bool as its flag, said one by one: a wrong one is refused by its name.
 use native.Mathlib.Omega.{arith}
+use mathlib.Core.List.{[], _∷_}
 use lib.ListN.{length-set}
+use lib.Seq.{sets}
+use denote.Ref.{now}
+use Rattle.rows.specs.Places as places
 use Rattle.rows.proofs.Casts.{flag-cast}
 use borrow.Author.Needs.{needs}
 use Rattle.rows.proofs.writing.put_control.Statement.{statement}
@@ -49,7 +53,12 @@ same-length : tie.Need-same-length
 same-length c = simp length-set (omega arith)
 
 returns : tie.Need-returns
-returns c = simp flag-cast
+returns c =
+    let z = c .before .before .before .before .before .before in
+    let k = z .args .c in
+    λ i. sets (now (z .args .row)) places.bursts
+    (flag-cast (k .bursts) i ∷ flag-cast (k .ground) i ∷ flag-cast (k .binary) i ∷ flag-cast (k .differential) i
+    ∷ flag-cast (k .barred) i ∷ flag-cast (k .simultaneous) i ∷ k .selection ∷ [])
 
 pub put-control-spec : {M : Type 1} → statement M
 put-control-spec =
