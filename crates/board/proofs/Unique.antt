@@ -2,8 +2,8 @@
 use Rattle.rules.proofs.Equal.{determined}
 use Rattle.board.specs.Unique.{Stepped-unique}
 
-pub stepped-unique : Stepped-unique
-stepped-unique b m e r r' n n' p q =
+pub stepped_unique : Stepped-unique
+stepped_unique b m e r r' n n' p q =
     let answers = determined p.answer q.answer in
     let boards = determined p.board q.board in
     (λ i. record { answer = answers i; board = boards i }, determined p.memory q.memory)

@@ -1,8 +1,8 @@
 -- What the code takes by itself of an event.
---   lostBy n c   the core c after a load of the fate n
+--   lost_by n c   the core c after a load of the fate n
 use Rattle.std.specs.Prelude.{ℕ, ◌||◌, eqb}
 use Rattle.board.specs.Types.{Core}
-use Rattle.rules.specs.Parts.{withLost}
+use Rattle.rules.specs.Parts.{with_lost}
 
-unfoldable pub lostBy : ℕ → Core → Core
-lostBy n c = withLost (record { full = c.lost.full || eqb n 2; closed = c.lost.closed || eqb n 3 }) c
+unfoldable pub lost_by : ℕ → Core → Core
+lost_by n c = with_lost (record { full = c.lost.full || eqb n 2; closed = c.lost.closed || eqb n 3 }) c

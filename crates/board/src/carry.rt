@@ -1,13 +1,13 @@
 // What a plan comes to: the values move, or one is stored, or all are dropped.
 ghost use Rattle.std.specs.Prelude.{◌≤◌, ◌≡◌};
-ghost use Rattle.rules.specs.Record.{activeSize};
-ghost use Rattle.rules.specs.Flags.{isFull};
+ghost use Rattle.rules.specs.Record.{active_size};
+ghost use Rattle.rules.specs.Flags.{is_full};
 ghost use Rattle.moves.specs.Ready.{Ready};
 ghost use Rattle.channels.specs.Serving.{Sober};
-ghost use Rattle.moves.specs.Does.{Does, ringValues};
+ghost use Rattle.moves.specs.Does.{Does, ring_values};
 ghost use Rattle.moves.specs.Promises.{joined};
 ghost use Rattle.plans.specs.Parts.{carried, MovesOrStores};
-ghost use Rattle.board.specs.Parts.{lostBy};
+ghost use Rattle.board.specs.Parts.{lost_by};
 
 use channels::serve;
 use moves::{Frame, Played, deal, load};
@@ -17,7 +17,7 @@ use status::active_size;
 
 // 01: "FRAME OVERFLOW (D17) is set and the value lost; else if full, BUFFER OVERFLOW (D16)"
 pub(crate) fn lost_by(fate: u32, c: Core) -> Core
-    ensures { result ≡ lostBy fate c }
+    ensures { result ≡ lost_by fate c }
 {
     let lost = Lost {
         full: c.lost.full | (fate == 2),
@@ -47,8 +47,8 @@ pub(crate) fn clocked(c: Core, cursor: u32, levels: [u16; 20], x: Frame) -> Core
 }
 
 pub(crate) fn carry(p: Plan, size: Size, ring: Ring, d: u32, memory: &mut [u32]) -> Played
-    requires { MovesOrStores p.act → Ready d ring memory.old × Sober p.core × (size.fitted ≤ 15) × (activeSize size ≤ d) }
-    ensures { Does d (carried p.act p.core (ringValues d ring memory.old) (isFull size ring.count)) ring memory.old result memory.new }
+    requires { MovesOrStores p.act → Ready d ring memory.old × Sober p.core × (size.fitted ≤ 15) × (active_size size ≤ d) }
+    ensures { Does d (carried p.act p.core (ring_values d ring memory.old) (is_full size ring.count)) ring memory.old result memory.new }
 {
     let core = p.core;
     let act = p.act;

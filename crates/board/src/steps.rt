@@ -3,8 +3,8 @@ ghost use Rattle.std.specs.Prelude.{◌≤◌, ◌≡◌};
 ghost use Rattle.board.specs.Promises.{Stepped};
 ghost use Rattle.rules.specs.Laws.Refusals.{Ordinary};
 ghost use Rattle.rules.specs.Refusals.{refusal};
-ghost use Rattle.rules.specs.Size.{sizeAfter};
-ghost use Rattle.rules.specs.Interrupt.{requestHeld};
+ghost use Rattle.rules.specs.Size.{size_after};
+ghost use Rattle.rules.specs.Interrupt.{request_held};
 ghost use Rattle.rules.specs.Step.{reading};
 ghost use Rattle.rules.specs.Record.{state_of};
 
@@ -51,7 +51,7 @@ pub(crate) fn register(b: Board, e: Event) -> u32
 
 // The board after a play, all but the interrupt's edge.
 pub(crate) fn board_before(b: Board, p: Played, e: Event) -> Board
-    ensures { result ≡ record { core = p.core; size = sizeAfter b.size e; request = requestHeld b.request e; ring = p.ring } }
+    ensures { result ≡ record { core = p.core; size = size_after b.size e; request = request_held b.request e; ring = p.ring } }
 {
     let size = b.size;
     let core = p.core;

@@ -2,9 +2,9 @@
 use mathlib.Core.Path.{sym, ◌∙◌}
 use Rattle.bridge.specs.Unique.{Called-one, RateCalled-one}
 
-pub called-one : Called-one
-called-one row memory event answer n n₂ r r₂ m m₂ a a₂ x y =
+pub called_one : Called-one
+called_one row memory event answer n n₂ r r₂ m m₂ a a₂ x y =
     (x.understood ∙ sym y.understood, x.row ∙ sym y.row, x.memory ∙ sym y.memory, x.answer ∙ sym y.answer)
 
-pub rate-called-one : RateCalled-one
-rate-called-one row figures n n₂ f f₂ x y = (x.understood ∙ sym y.understood, x.figures ∙ sym y.figures)
+pub rate_called_one : RateCalled-one
+rate_called_one row figures n n₂ f f₂ x y = (x.understood ∙ sym y.understood, x.figures ∙ sym y.figures)

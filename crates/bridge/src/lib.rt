@@ -1,9 +1,9 @@
 // One event, and the rate question, on rows of numbers, for hosts in Rust and C.
 // A slice is a pointer and then a length on their side (hosts/).
 ghost use Rattle.std.specs.Prelude.{◌≡◌, cond, eqb, length};
-ghost use Rattle.rows.specs.Places.{rowLong};
-ghost use Rattle.rows.specs.Writing.{boardRow};
-ghost use Rattle.bridge.specs.Calls.{CallFits, callStatus, answerRow};
+ghost use Rattle.rows.specs.Places.{row_long};
+ghost use Rattle.rows.specs.Writing.{board_row};
+ghost use Rattle.bridge.specs.Calls.{CallFits, call_status, answer_row};
 ghost use Rattle.bridge.specs.Promises.{Called, RateCalled};
 
 use crate::events::row_event;
@@ -18,7 +18,7 @@ mod figures;
 
 // Which of the reasons not to look at a call comes first, 0 if none does.
 fn status_of(row: usize, event: &[u32], answer: usize) -> u32
-    ensures { (result ≡ callStatus row event.now answer) × (result ≡ 0 → CallFits row event.now answer) }
+    ensures { (result ≡ call_status row event.now answer) × (result ≡ 0 → CallFits row event.now answer) }
 {
     if row != ROW_LONG {
         return 1;
@@ -38,8 +38,8 @@ fn status_of(row: usize, event: &[u32], answer: usize) -> u32
 
 // 01: "the given record comes back": a refused event leaves the row alone, and does not write it anew.
 fn give_back(refusal: u32, b: Board, row: &mut [u32])
-    requires { length row.old ≡ rowLong }
-    ensures { row.new ≡ cond (eqb refusal 0) (boardRow b) row.old }
+    requires { length row.old ≡ row_long }
+    ensures { row.new ≡ cond (eqb refusal 0) (board_row b) row.old }
 {
     if refusal == 0 {
         put_board(b, row);
@@ -47,8 +47,8 @@ fn give_back(refusal: u32, b: Board, row: &mut [u32])
 }
 
 fn put_reply(reply: Reply, row: &mut [u32], answer: &mut [u32])
-    requires { (length row.old ≡ rowLong) × (length answer.old ≡ 4) }
-    ensures { (row.new ≡ cond (eqb reply.answer.refusal 0) (boardRow reply.board) row.old) × (answer.new ≡ answerRow reply.answer) }
+    requires { (length row.old ≡ row_long) × (length answer.old ≡ 4) }
+    ensures { (row.new ≡ cond (eqb reply.answer.refusal 0) (board_row reply.board) row.old) × (answer.new ≡ answer_row reply.answer) }
 {
     let a = reply.answer;
     answer[0] = a.refusal;

@@ -4,31 +4,31 @@ use mathlib.Core.Path.{◌≡◌, refl}
 use mathlib.Core.Bool.{true, false}
 use lib.Dec.{eqb}
 use Rattle.rules.specs.declared.Core.{Core}
-use Rattle.rules.specs.Clocks.{closed, cursorAfter}
-use Rattle.rules.proofs.Choice.{cond-true, cond-false}
-use Rattle.channels.specs.Serving.{toMove, servedBy, servingOf}
+use Rattle.rules.specs.Clocks.{closed, cursor_after}
+use Rattle.rules.proofs.Choice.{cond_true, cond_false}
+use Rattle.channels.specs.Serving.{to_move, served_by, serving_of}
 
 module _ (c : Core) (n : ℕ) where
-  pub again-closed : (servingOf c n).again ≡ closed c
-  unfolding servingOf
-  again-closed = refl
+  pub again_closed : (serving_of c n).again ≡ closed c
+  unfolding serving_of
+  again_closed = refl
 
-  pub moved_told : (servingOf c n).moved ≡ toMove c n
-  unfolding servingOf
+  pub moved_told : (serving_of c n).moved ≡ to_move c n
+  unfolding serving_of
   moved_told = refl
 
-  pub mask-none : eqb (toMove c n) 0 ≡ true → (servingOf c n).mask ≡ 0
-  unfolding servingOf
-  mask-none e = cond-true _ _ _ e
+  pub mask_none : eqb (to_move c n) 0 ≡ true → (serving_of c n).mask ≡ 0
+  unfolding serving_of
+  mask_none e = cond_true _ _ _ e
 
-  pub mask-some : eqb (toMove c n) 0 ≡ false → (servingOf c n).mask ≡ servedBy c
-  unfolding servingOf
-  mask-some e = cond-false _ _ _ e
+  pub mask_some : eqb (to_move c n) 0 ≡ false → (serving_of c n).mask ≡ served_by c
+  unfolding serving_of
+  mask_some e = cond_false _ _ _ e
 
-  pub cursor-none : eqb (toMove c n) 0 ≡ true → (servingOf c n).cursor ≡ c.outputs.cursor
-  unfolding servingOf
-  cursor-none e = cond-true _ _ _ e
+  pub cursor_none : eqb (to_move c n) 0 ≡ true → (serving_of c n).cursor ≡ c.outputs.cursor
+  unfolding serving_of
+  cursor_none e = cond_true _ _ _ e
 
-  pub cursor-some : eqb (toMove c n) 0 ≡ false → (servingOf c n).cursor ≡ cursorAfter c
-  unfolding servingOf
-  cursor-some e = cond-false _ _ _ e
+  pub cursor_some : eqb (to_move c n) 0 ≡ false → (serving_of c n).cursor ≡ cursor_after c
+  unfolding serving_of
+  cursor_some e = cond_false _ _ _ e

@@ -1,9 +1,9 @@
 -- What an accepted clock is to do.
 --   Sober c         the core's mask and cursor are those of at most twenty channels
---   servingOf c n   what it is to do, n values being stored
+--   serving_of c n   what it is to do, n values being stored
 use Rattle.std.specs.Prelude.{ℕ, ◌≤◌, ◌<◌, ◌^◌, Bool, cond, ◌&&◌, eqb, leb, ltb, replicate}
 use Rattle.rules.specs.declared.Core.{Core}
-use Rattle.rules.specs.Clocks.{closed, nextChannel, moving, cursorAfter}
+use Rattle.rules.specs.Clocks.{closed, next_channel, moving, cursor_after}
 use Rattle.channels.specs.declared.Serving.{Serving}
 
 pub record Sober (c : Core) : Type 0 where
@@ -15,18 +15,18 @@ unfoldable pub sober : Core → Bool
 sober c = ltb c.outputs.mask (2 ^ 20) && leb c.outputs.cursor 20
 
 -- how many of n stored values an accepted clock moves: `moving` of the rules asks their list for its length alone, so any n will do
-unfoldable pub toMove : Core → ℕ → ℕ
-toMove c n = cond (sober c) (moving c (replicate n 0)) 0
+unfoldable pub to_move : Core → ℕ → ℕ
+to_move c n = cond (sober c) (moving c (replicate n 0)) 0
 
 -- the channels that it serves, as a mask
-unfoldable pub servedBy : Core → ℕ
-servedBy c = cond c.control.simultaneous c.outputs.mask (2 ^ nextChannel c)
+unfoldable pub served_by : Core → ℕ
+served_by c = cond c.control.simultaneous c.outputs.mask (2 ^ next_channel c)
 
-unfoldable pub servingOf : Core → ℕ → Serving
-servingOf c n =
+unfoldable pub serving_of : Core → ℕ → Serving
+serving_of c n =
     record {
-      mask = cond (eqb (toMove c n) 0) 0 (servedBy c);
-      moved = toMove c n;
-      cursor = cond (eqb (toMove c n) 0) c.outputs.cursor (cursorAfter c);
+      mask = cond (eqb (to_move c n) 0) 0 (served_by c);
+      moved = to_move c n;
+      cursor = cond (eqb (to_move c n) 0) c.outputs.cursor (cursor_after c);
       again = closed c;
     }

@@ -1,7 +1,7 @@
 // How many values a clock moves.
 ghost use Rattle.std.specs.Prelude.{◌≡◌};
 ghost use Rattle.rules.specs.Clocks.{idle};
-ghost use Rattle.channels.specs.Serving.{toMove};
+ghost use Rattle.channels.specs.Serving.{to_move};
 
 use crate::targets::group_size;
 use rules::Core;
@@ -16,7 +16,7 @@ pub(crate) fn idle(c: Core) -> bool
 
 // 01: "sequential mode moves one value, if any"; "only if that many are stored". 0 where the mask or the cursor is out of range.
 pub(crate) fn to_move(c: Core, count: u32) -> u32
-    ensures { result ≡ toMove c count }
+    ensures { result ≡ to_move c count }
 {
     if (c.outputs.mask < 1048576) & (c.outputs.cursor <= 20) {
         let size = group_size(c);

@@ -1,7 +1,7 @@
 // Which channels an accepted clock serves. Every call takes every input. It tells what specs/Serving.antt says
 // (`Told` of rules/specs/Told.antt).
 ghost use Rattle.rules.specs.Told.{Told};
-ghost use Rattle.channels.specs.Serving.{servingOf};
+ghost use Rattle.channels.specs.Serving.{serving_of};
 
 use crate::amounts::to_move;
 use crate::targets::{cursor_after, served};
@@ -23,7 +23,7 @@ pub struct Serving {
 
 // Which channels an accepted clock serves, count values being stored. Where the core's mask or cursor is out of range it serves none.
 pub fn serve(c: Core, count: u32) -> Serving
-    ensures { Told (servingOf c count) result }
+    ensures { Told (serving_of c count) result }
 {
     let n = to_move(c, count);
     if n == 0 {

@@ -1,8 +1,8 @@
 // The channels that a clock serves, and how many they are.
 ghost use Rattle.std.specs.Prelude.{◌≤◌, ◌<◌, ◌^◌, ◌≡◌, length};
-ghost use Rattle.rules.specs.Bits.{activeFrom, head_or};
-ghost use Rattle.rules.specs.Clocks.{nextChannel, targets, cursorAfter};
-ghost use Rattle.channels.specs.Serving.{servedBy};
+ghost use Rattle.rules.specs.Bits.{active_from, head_or};
+ghost use Rattle.rules.specs.Clocks.{next_channel, targets, cursor_after};
+ghost use Rattle.channels.specs.Serving.{served_by};
 
 use rules::Core;
 
@@ -10,7 +10,7 @@ use rules::Core;
 // it is said in laws/specs/Search.antt (`Cursor-zeros`). Where no bit is left the zeros are 32.
 pub(crate) fn lowest_from(mask: u32, k: u32) -> u32
     requires { k ≤ 20 }
-    ensures { result ≡ head_or 20 (activeFrom k mask) }
+    ensures { result ≡ head_or 20 (active_from k mask) }
 {
     let at = k + u32::trailing_zeros(mask >> k);
     if at < 20 {
@@ -22,7 +22,7 @@ pub(crate) fn lowest_from(mask: u32, k: u32) -> u32
 // 01: "to the lowest active channel at or above the cursor, else to the lowest active one"
 pub(crate) fn next_channel(c: Core) -> u32
     requires { c.outputs.cursor ≤ 20 }
-    ensures { (result ≡ nextChannel c) × (result < 20) }
+    ensures { (result ≡ next_channel c) × (result < 20) }
 {
     let mask = c.outputs.mask;
     let above = lowest_from(mask, c.outputs.cursor);
@@ -39,7 +39,7 @@ pub(crate) fn next_channel(c: Core) -> u32
 // The channels that a clock serves, as a mask: every active one, or the next.
 pub(crate) fn served(c: Core) -> u32
     requires { c.outputs.cursor ≤ 20 }
-    ensures { result ≡ servedBy c }
+    ensures { result ≡ served_by c }
 {
     if c.control.simultaneous {
         return c.outputs.mask;
@@ -50,7 +50,7 @@ pub(crate) fn served(c: Core) -> u32
 // 01: "the cursor becomes that channel + 1"; "the cursor stays 0"
 pub(crate) fn cursor_after(c: Core) -> u32
     requires { c.outputs.cursor ≤ 20 }
-    ensures { result ≡ cursorAfter c }
+    ensures { result ≡ cursor_after c }
 {
     if c.control.simultaneous {
         return c.outputs.cursor;

@@ -13,55 +13,55 @@ use Rattle.rules.specs.declared.Signal.TheVariants.{Tick as tick}
 use Rattle.rules.specs.declared.Size.{Size}
 use Rattle.rules.specs.declared.Core.{Core}
 use Rattle.rules.specs.Record.{State, stored}
-use Rattle.rules.specs.Clocks.{Play, fateNumber}
-use Rattle.rules.specs.Size.{sizeAfter}
+use Rattle.rules.specs.Clocks.{Play, fate_number}
+use Rattle.rules.specs.Size.{size_after}
 use Rattle.rules.specs.Refusals.{refusal}
-use Rattle.rules.specs.Step.{played, boardBefore, done, step}
+use Rattle.rules.specs.Step.{played, board_before, done, step}
 use Rattle.rules.specs.Laws.Soundness.{Stands}
-use Rattle.rules.specs.Laws.Refusals.{Ordinary, Offset, written, heard, aTick}
+use Rattle.rules.specs.Laws.Refusals.{Ordinary, Offset, written, heard, a_tick}
 use Rattle.rules.specs.Session.{outcomes, after}
-use Rattle.rules.proofs.Steps.{step-done, refusal-answered}
-use Rattle.rules.proofs.Refusals.{refusal-exactly}
-use Rattle.laws.proofs.Places.{onList}
-use Rattle.laws.proofs.Kept.{kept, stands-fit}
-use Rattle.laws.proofs.Lasting.{stands-kept}
-use Rattle.laws.proofs.Loads.{fate-none}
-use Rattle.cut_rules.specs.Plays.{Fine, none, next, manyTicks}
+use Rattle.rules.proofs.Steps.{step_done, refusal_answered}
+use Rattle.rules.proofs.Refusals.{refusal_exactly}
+use Rattle.laws.proofs.Places.{on_list}
+use Rattle.laws.proofs.Kept.{kept, stands_fit}
+use Rattle.laws.proofs.Lasting.{stands_kept}
+use Rattle.laws.proofs.Loads.{fate_none}
+use Rattle.cut_rules.specs.Plays.{Fine, none, next, many_ticks}
 
 pub record Done (s : State) (e : Event) (p : Play) : Type 0 where
   pub refusal : (step s e).answer.refusal ≡ 0
-  pub fate : (step s e).answer.fate ≡ fateNumber p.fate
+  pub fate : (step s e).answer.fate ≡ fate_number p.fate
   pub stands : Stands (step s e).state
   pub core : (step s e).state.board.core ≡ p.core
-  pub values : stored (step s e).state ≡ onList p.op (stored s)
-  pub size : (step s e).state.board.size ≡ sizeAfter s.board.size e
+  pub values : stored (step s e).state ≡ on_list p.op (stored s)
+  pub size : (step s e).state.board.size ≡ size_after s.board.size e
 
-pub event-done : (s : State) (e : Event) (p : Play) → Stands s → Ordinary e → refusal s e ≡ 0 → played s e ≡ p → Done s e p
-unfolding done boardBefore
-event-done s e p st o z h =
-    let k = kept s e o (stands-fit s st) in
+pub event_done : (s : State) (e : Event) (p : Play) → Stands s → Ordinary e → refusal s e ≡ 0 → played s e ≡ p → Done s e p
+unfolding done board_before
+event_done s e p st o z h =
+    let k = kept s e o (stands_fit s st) in
     record {
-      refusal = rw (step-done s e z) refl;
-      fate = rw (step-done s e z) (ap (λ (x : Play). fateNumber x.fate) h);
-      stands = stands-kept s e st;
-      core = rw (step-done s e z) (ap (λ (x : Play). x.core) h);
-      values = rw (step-done s e z) (k.lists ∙ ap (λ (x : Play). onList x.op (stored s)) h);
-      size = rw (step-done s e z) refl;
+      refusal = rw (step_done s e z) refl;
+      fate = rw (step_done s e z) (ap (λ (x : Play). fate_number x.fate) h);
+      stands = stands_kept s e st;
+      core = rw (step_done s e z) (ap (λ (x : Play). x.core) h);
+      values = rw (step_done s e z) (k.lists ∙ ap (λ (x : Play). on_list x.op (stored s)) h);
+      size = rw (step_done s e z) refl;
     }
 
 -- an event that is no load loses nothing
-pub no-loss : {n : ℕ} → n ≡ 0 → n ≤ 1
-no-loss e = le_trans (le_of_eq e) zero-le
+pub no_loss_lem : {n : ℕ} → n ≡ 0 → n ≤ 1
+no_loss_lem e = le_trans (le_of_eq e) zero-le
 
 -- ---- Which are not refused
 
 -- a write to a register that is none of the two that are read only, while no calibration runs
-pub write-open : (s : State) (o v : ℕ) → Stands s → Offset o → o ≢ 0x10 → o ≢ 0x14 → s.board.core.calibration.running ≡ false
+pub write_open : (s : State) (o v : ℕ) → Stands s → Offset o → o ≢ 0x10 → o ≢ 0x14 → s.board.core.calibration.running ≡ false
     → refusal s (write o v) ≡ 0
-write-open s o v st a m m' c = (refusal-exactly s (write o v) 0).1 (written st a m m' (λ t. true≢false (sym t ∙ c)))
+write_open s o v st a m m' c = (refusal_exactly s (write o v) 0).1 (written st a m m' (λ t. true≢false (sym t ∙ c)))
 
-pub tick-open : (s : State) → Stands s → refusal s (signal tick) ≡ 0
-tick-open s st = (refusal-exactly s (signal tick) 0).1 (heard aTick st)
+pub tick_open : (s : State) → Stands s → refusal s (signal tick) ≡ 0
+tick_open s st = (refusal_exactly s (signal tick) 0).1 (heard a_tick st)
 
 -- ---- What is known of a board
 
@@ -73,36 +73,36 @@ pub record BoardWith (c : Core) (z : Size) (vs : List ℕ) (s : State) : Type 0 
 
 module _ {c : Core} {z : Size} {vs : List ℕ} {s : State} (b : BoardWith c z vs s) where
   -- and so of the board after an event
-  pub board-after : {e : Event} {p : Play} → Done s e p → BoardWith p.core (sizeAfter z e) (onList p.op vs) (step s e).state
-  board-after {e} {p} d =
+  pub board_after : {e : Event} {p : Play} → Done s e p → BoardWith p.core (size_after z e) (on_list p.op vs) (step s e).state
+  board_after {e} {p} d =
       record {
         stands = d.stands;
         core = d.core;
-        size = d.size ∙ ap (λ (y : Size). sizeAfter y e) b.size;
-        values = d.values ∙ ap (onList p.op) b.values;
+        size = d.size ∙ ap (λ (y : Size). size_after y e) b.size;
+        values = d.values ∙ ap (on_list p.op) b.values;
       }
 
-  pub write-accepted : (o v : ℕ) → Offset o → o ≢ 0x10 → o ≢ 0x14 → c.calibration.running ≡ false → refusal s (write o v) ≡ 0
-  write-accepted o v a m m' still = write-open s o v b.stands a m m' (ap (λ (y : Core). y.calibration.running) b.core ∙ still)
+  pub write_accepted : (o v : ℕ) → Offset o → o ≢ 0x10 → o ≢ 0x14 → c.calibration.running ≡ false → refusal s (write o v) ≡ 0
+  write_accepted o v a m m' still = write_open s o v b.stands a m m' (ap (λ (y : Core). y.calibration.running) b.core ∙ still)
 
   -- a write whose play p is told of the core, whatever the values and the size are
   pub write_done : (o v : ℕ) (p : Core → Play) → Offset o → o ≢ 0x10 → o ≢ 0x14 → c.calibration.running ≡ false
       → played s (write o v) ≡ p s.board.core
       → Done s (write o v) (p c)
   write_done o v p a m m' still h =
-      event-done s (write o v) (p c) b.stands tt (write-accepted o v a m m' still) (h ∙ ap p b.core)
+      event_done s (write o v) (p c) b.stands tt (write_accepted o v a m m' still) (h ∙ ap p b.core)
 
 -- ---- One after another
 
-pub fine-append : (s : State) (es fs : List Event) → Fine (outcomes s es) → Fine (outcomes (after s es) fs) → Fine (outcomes s (es ++ fs))
+pub fine_append : (s : State) (es fs : List Event) → Fine (outcomes s es) → Fine (outcomes (after s es) fs) → Fine (outcomes s (es ++ fs))
 unfolding outcomes after
-fine-append s [] fs none h = h
-fine-append s (e ∷ es) fs (next r f g) h = next r f (fine-append (step s e).state es fs g h)
+fine_append s [] fs none h = h
+fine_append s (e ∷ es) fs (next r f g) h = next r f (fine_append (step s e).state es fs g h)
 
 -- ticks are never refused, and lose nothing
-pub ticks-fine : (n : ℕ) (s : State) → Stands s → Fine (outcomes s (manyTicks n))
+pub ticks_fine : (n : ℕ) (s : State) → Stands s → Fine (outcomes s (many_ticks n))
 unfolding outcomes
-ticks-fine zero s st = none
-ticks-fine (suc n) s st =
-    next (refusal-answered s (signal tick) ∙ tick-open s st) (no-loss (fate-none s (signal tick) (λ h. h)))
-    (ticks-fine n (step s (signal tick)).state (stands-kept s (signal tick) st))
+ticks_fine zero s st = none
+ticks_fine (suc n) s st =
+    next (refusal_answered s (signal tick) ∙ tick_open s st) (no_loss_lem (fate_none s (signal tick) (λ h. h)))
+    (ticks_fine n (step s (signal tick)).state (stands_kept s (signal tick) st))

@@ -13,33 +13,33 @@ use Rattle.rules.specs.declared.Settings.{Settings}
 use Rattle.rules.specs.declared.Event.{Event}
 use Rattle.rules.specs.declared.Event.TheVariants.{Signal as signal}
 use Rattle.rules.specs.declared.Signal.TheVariants.{Tick as tick}
-use Rattle.rules.specs.Bits.{bit, activeFrom, head_or}
-use Rattle.rules.specs.Record.{State, levelSpan}
+use Rattle.rules.specs.Bits.{bit, active_from, head_or}
+use Rattle.rules.specs.Record.{State, level_span}
 use Rattle.rules.specs.Clocks.{targets}
 use Rattle.rules.specs.Step.{step}
 use Rattle.rules.specs.Session.{outcomes, after}
-use Rattle.rules.proofs.Runs.{after-append}
-use Rattle.laws.specs.Moved.{Coding, levelAt, Among}
-use Rattle.laws.proofs.Among.{among-nil, among-cons}
-use Rattle.cut_rules.specs.Cut.{Cut, sample, chosen, groups, numbers, eofOnLast, events}
-use Rattle.cut_rules.specs.Plays.{Equipped, Ordered, powered, Fine, Playable, EitherOrder, manyTicks, GroupByGroup, InTurn, OnItsOutput, Channel-plays}
-use Rattle.cut_rules.proofs.Lists.{eof-told, eof-data}
-use Rattle.cut_rules.proofs.ChosenNumbers.{chosen_is, chosen-channels, numbers-long, numbers-at}
-use Rattle.cut_rules.proofs.Passing.{fine-append, ticks-fine}
-use Rattle.cut_rules.proofs.Loading.{initial-takes, initial-twenty, cut-powered}
-use Rattle.cut_rules.proofs.TwoWrites.{Playing, board-playing, ready-to-play, two-done}
-use Rattle.cut_rules.proofs.Ticks.{tick-moves, tick-playing, tick-given, play-targets, sequential-targets}
-use Rattle.cut_rules.proofs.Order.{next-from}
+use Rattle.rules.proofs.Runs.{after_append}
+use Rattle.laws.specs.Moved.{Coding, level_at, Among}
+use Rattle.laws.proofs.Among.{among_nil, among_cons}
+use Rattle.cut_rules.specs.Cut.{Cut, sample, chosen, groups, numbers, eof_on_last, events}
+use Rattle.cut_rules.specs.Plays.{Equipped, Ordered, powered, Fine, Playable, EitherOrder, many_ticks, GroupByGroup, InTurn, OnItsOutput, Channel-plays}
+use Rattle.cut_rules.proofs.Lists.{eof_told, eof_data}
+use Rattle.cut_rules.proofs.ChosenNumbers.{chosen_is, chosen_channels, numbers_long, numbers_at}
+use Rattle.cut_rules.proofs.Passing.{fine_append, ticks_fine}
+use Rattle.cut_rules.proofs.Loading.{initial_takes, initial_twenty, cut_powered}
+use Rattle.cut_rules.proofs.TwoWrites.{Playing, board_playing, ready_to_play, two_done}
+use Rattle.cut_rules.proofs.Ticks.{tick_moves, tick_playing, tick_given, play_targets, sequential_targets}
+use Rattle.cut_rules.proofs.Order.{next_from}
 
 -- one tick more comes last
-after-tick : (n : ℕ) (s : State) → after s (manyTicks (suc n)) ≡ (step (after s (manyTicks n)) (signal tick)).state
+after_tick : (n : ℕ) (s : State) → after s (many_ticks (suc n)) ≡ (step (after s (many_ticks n)) (signal tick)).state
 unfolding after
-after-tick zero s = refl
-after-tick (suc n) s = after-tick n (step s (signal tick)).state
+after_tick zero s = refl
+after_tick (suc n) s = after_tick n (step s (signal tick)).state
 
 -- the coding looks at the data alone
-coding-data : (binary : Bool) (v w level : ℕ) → v % levelSpan ≡ w % levelSpan → Coding binary v level → Coding binary w level
-coding-data binary v w level e c =
+coding_data : (binary : Bool) (v w level : ℕ) → v % level_span ≡ w % level_span → Coding binary v level → Coding binary w level
+coding_data binary v w level e c =
     record {
       same = λ b. c.same b ∙ e;
       lower = λ b l. c.lower b (omega (arith, e)) ∙ omega (arith, e);
@@ -49,26 +49,26 @@ coding-data binary v w level e c =
 module _ (q : Cut) (o : Ordered q) (v : ℕ) (s : State) where
   -- the values that are stored, so many of each group
   abbrev vs : List ℕ
-  vs = eofOnLast (numbers q)
+  vs = eof_on_last (numbers q)
 
   abbrev c : ℕ
   c = length (chosen q)
 
   abbrev at : ℕ → State
-  at n = after s (manyTicks n)
+  at n = after s (many_ticks n)
 
   long : length vs ≡ groups q * c
-  long = (eof-told (numbers q)).long ∙ numbers-long q
+  long = (eof_told (numbers q)).long ∙ numbers_long q
 
   -- the i-th value of the j-th group
   value : (j i level : ℕ) → j < groups q → i < c → Coding (bit 4 v) (get_or vs (j * c + i) 0) level
       → Coding (bit 4 v) (sample q (q.first + j) (get_or (chosen q) i 0)) level
   value j i level l k h =
-      coding-data (bit 4 v) _ _ level (eof-data (numbers q) (j * c + i) ∙ ap (λ (x : ℕ). x % levelSpan) (numbers-at q j i l k)) h
+      coding_data (bit 4 v) _ _ level (eof_data (numbers q) (j * c + i) ∙ ap (λ (x : ℕ). x % level_span) (numbers_at q j i l k)) h
 
   -- of the groups, those behind the j-th are stored whole
-  group-left : (j : ℕ) → j < groups q → c + j * c ≤ length vs
-  group-left j l = omega (arith, long, suc-mul j c, mul-le-mul_right c l)
+  group_left : (j : ℕ) → j < groups q → c + j * c ≤ length vs
+  group_left j l = omega (arith, long, suc-mul j c, mul-le-mul_right c l)
 
   some : q.mask ≢ 0
   some = o.choice.some
@@ -79,50 +79,50 @@ module _ (q : Cut) (o : Ordered q) (v : ℕ) (s : State) where
     abbrev Before : ℕ → State → Type 0
     Before j x = Playing q.mask v (drop (j * c) vs) 0 x
 
-    all-targets : (j : ℕ) (x : State) → Before j x → targets x.board.core ≡ chosen q
-    all-targets j x p = play-targets _ q.mask v 0 p.ready mode ∙ sym (chosen_is q)
+    all_targets : (j : ℕ) (x : State) → Before j x → targets x.board.core ≡ chosen q
+    all_targets j x p = play_targets _ q.mask v 0 p.ready mode ∙ sym (chosen_is q)
 
     enough : (j : ℕ) (x : State) → j < groups q → Before j x → length (targets x.board.core) ≤ length (drop (j * c) vs)
-    enough j x l p = omega (arith, ap length (all-targets j x p), length-drop (j * c) vs, group-left j l)
+    enough j x l p = omega (arith, ap length (all_targets j x p), length-drop (j * c) vs, group_left j l)
 
-    group-next : (j : ℕ) (x : State) → j < groups q → Before j x → Before (suc j) (step x (signal tick)).state
-    group-next j x l p =
+    group_next : (j : ℕ) (x : State) → j < groups q → Before j x → Before (suc j) (step x (signal tick)).state
+    group_next j x l p =
         let e = enough j x l p in
-        let zero-cursor = (tick-moves q.mask v _ 0 x p some e).group (p.ready.simultaneous ∙ mode) in
-        let n : j * c + length (targets x.board.core) ≡ suc j * c = omega (arith, ap length (all-targets j x p), suc-mul j c) in
+        let zero-cursor = (tick_moves q.mask v _ 0 x p some e).group (p.ready.simultaneous ∙ mode) in
+        let n : j * c + length (targets x.board.core) ≡ suc j * c = omega (arith, ap length (all_targets j x p), suc-mul j c) in
         subst (λ (ws : List ℕ). Playing q.mask v ws 0 (step x (signal tick)).state)
         (drop-drop (length (targets x.board.core)) (j * c) vs ∙ ap (λ (y : ℕ). drop y vs) n)
-        (tick-playing q.mask v _ 0 x p some e 0 zero-cursor)
+        (tick_playing q.mask v _ 0 x p some e 0 zero-cursor)
 
     group_at : (j : ℕ) → j ≤ groups q → Before j (at j)
     unfolding after
     group_at zero l = let z : 0 * c ≡ 0 = omega arith in subst (λ (n : ℕ). Playing q.mask v (drop n vs) 0 s) (sym z) start
-    group_at (suc j) l = subst (Before (suc j)) (sym (after-tick j s)) (group-next j (at j) l (group_at j (omega arith)))
+    group_at (suc j) l = subst (Before (suc j)) (sym (after_tick j s)) (group_next j (at j) l (group_at j (omega arith)))
 
-    group-plays : (j k : ℕ) (x : State) → j < groups q → Before j x → bit k q.mask ≡ true
-        → Coding (bit 4 v) (sample q (q.first + j) k) (levelAt (step x (signal tick)).state k)
-    group-plays j k x l p t =
+    group_plays : (j k : ℕ) (x : State) → j < groups q → Before j x → bit k q.mask ≡ true
+        → Coding (bit 4 v) (sample q (q.first + j) k) (level_at (step x (signal tick)).state k)
+    group_plays j k x l p t =
         let x' : State = (step x (signal tick)).state in
-        let a = ((chosen-channels q o.count o.grouped o.choice).active k).1 t in
-        let e = all-targets j x p in
-        let g = tick-given q.mask v _ 0 x p some (enough j x l p) a.index (omega (arith, a.inside, ap length e)) in
-        let g' = subst (λ (ks : List ℕ). Coding (bit 4 v) (get_or (drop (j * c) vs) a.index 0) (levelAt x' (get_or ks a.index 0))) e g in
-        let g'' = subst (λ (w : ℕ). Coding (bit 4 v) w (levelAt x' (get_or (chosen q) a.index 0))) (get_or-drop (j * c) vs a.index 0) g' in
-        subst (λ (y : ℕ). Coding (bit 4 v) (sample q (q.first + j) y) (levelAt x' y)) a.there (value j a.index _ l a.inside g'')
+        let a = ((chosen_channels q o.count o.grouped o.choice).active k).1 t in
+        let e = all_targets j x p in
+        let g = tick_given q.mask v _ 0 x p some (enough j x l p) a.index (omega (arith, a.inside, ap length e)) in
+        let g' = subst (λ (ks : List ℕ). Coding (bit 4 v) (get_or (drop (j * c) vs) a.index 0) (level_at x' (get_or ks a.index 0))) e g in
+        let g'' = subst (λ (w : ℕ). Coding (bit 4 v) w (level_at x' (get_or (chosen q) a.index 0))) (get_or-drop (j * c) vs a.index 0) g' in
+        subst (λ (y : ℕ). Coding (bit 4 v) (sample q (q.first + j) y) (level_at x' y)) a.there (value j a.index _ l a.inside g'')
 
-    group-holds : (j k : ℕ) (x : State) → j < groups q → Before j x → bit k q.mask ≡ false
-        → levelAt (step x (signal tick)).state k ≡ levelAt x k
-    group-holds j k x l p t =
-        (tick-moves q.mask v _ 0 x p some (enough j x l p)).hold k
-        (λ a. true≢false (sym (((chosen-channels q o.count o.grouped o.choice).active k).0 (subst (Among k) (all-targets j x p) a)) ∙ t))
+    group_holds : (j k : ℕ) (x : State) → j < groups q → Before j x → bit k q.mask ≡ false
+        → level_at (step x (signal tick)).state k ≡ level_at x k
+    group_holds j k x l p t =
+        (tick_moves q.mask v _ 0 x p some (enough j x l p)).hold k
+        (λ a. true≢false (sym (((chosen_channels q o.count o.grouped o.choice).active k).0 (subst (Among k) (all_targets j x p) a)) ∙ t))
 
     together : GroupByGroup q (bit 4 v) at
     together =
         record {
           plays = λ j k l t.
-              subst (λ (y : State). Coding (bit 4 v) (sample q (q.first + j) k) (levelAt y k)) (sym (after-tick j s))
-              (group-plays j k (at j) l (group_at j (omega arith)) t);
-          holds = λ j k l t. ap (λ (y : State). levelAt y k) (after-tick j s) ∙ group-holds j k (at j) l (group_at j (omega arith)) t;
+              subst (λ (y : State). Coding (bit 4 v) (sample q (q.first + j) k) (level_at y k)) (sym (after_tick j s))
+              (group_plays j k (at j) l (group_at j (omega arith)) t);
+          holds = λ j k l t. ap (λ (y : State). level_at y k) (after_tick j s) ∙ group_holds j k (at j) l (group_at j (omega arith)) t;
           over = (group_at (groups q) (omega arith)).values ∙ drop_of_length-le vs {i = groups q * c} (omega (arith, long));
         }
 
@@ -134,7 +134,7 @@ module _ (q : Cut) (o : Ordered q) (v : ℕ) (s : State) where
     record Turn (j i : ℕ) (x : State) : Type 0 where
       cursor : ℕ
       playing : Playing q.mask v (drop (j * c + i) vs) cursor x
-      line : (activeFrom cursor q.mask ≡ drop i (chosen q)) ⊎ ((i ≡ 0) × (activeFrom cursor q.mask ≡ []))
+      line : (active_from cursor q.mask ≡ drop i (chosen q)) ⊎ ((i ≡ 0) × (active_from cursor q.mask ≡ []))
 
     module _ (j i : ℕ) (x : State) (l : j < groups q) (k : i < c) (t : Turn j i x) where
       abbrev x' : State
@@ -145,20 +145,20 @@ module _ (q : Cut) (o : Ordered q) (v : ℕ) (s : State) where
       turn = get_or (chosen q) i 0
 
       -- it is the first of the line, or of all; behind it come the others
-      line-from : (n : ℕ) × (n ≤ 20) × (activeFrom n q.mask ≡ turn ∷ drop (suc i) (chosen q))
-          × (head_or 0 (activeFrom t.cursor q.mask ++ chosen q) ≡ turn)
+      line_from : (n : ℕ) × (n ≤ 20) × (active_from n q.mask ≡ turn ∷ drop (suc i) (chosen q))
+          × (head_or 0 (active_from t.cursor q.mask ++ chosen q) ≡ turn)
       unfolding head_or
-      line-from = go t.line
+      line_from = go t.line
         where
           split : drop i (chosen q) ≡ turn ∷ drop (suc i) (chosen q)
           split = drop-cons (chosen q) i 0 k
 
-          go : (activeFrom t.cursor q.mask ≡ drop i (chosen q)) ⊎ ((i ≡ 0) × (activeFrom t.cursor q.mask ≡ []))
-              → (n : ℕ) × (n ≤ 20) × (activeFrom n q.mask ≡ turn ∷ drop (suc i) (chosen q))
-              × (head_or 0 (activeFrom t.cursor q.mask ++ chosen q) ≡ turn)
+          go : (active_from t.cursor q.mask ≡ drop i (chosen q)) ⊎ ((i ≡ 0) × (active_from t.cursor q.mask ≡ []))
+              → (n : ℕ) × (n ≤ 20) × (active_from n q.mask ≡ turn ∷ drop (suc i) (chosen q))
+              × (head_or 0 (active_from t.cursor q.mask ++ chosen q) ≡ turn)
           go (inl e) = (
             t.cursor,
-            omega (arith, t.playing.stands.sound.cursor, t.playing.ready.cursor-is),
+            omega (arith, t.playing.stands.sound.cursor, t.playing.ready.cursor_is),
             e ∙ split,
             ap (λ (ks : List ℕ). head_or 0 (ks ++ chosen q)) (e ∙ split),
           )
@@ -166,39 +166,39 @@ module _ (q : Cut) (o : Ordered q) (v : ℕ) (s : State) where
               let whole : chosen q ≡ turn ∷ drop (suc i) (chosen q) = ap (λ (n : ℕ). drop n (chosen q)) (sym e.0) ∙ split in
               (0, omega arith, sym (chosen_is q) ∙ whole, (λ m. head_or 0 (e.1 m ++ chosen q)) ∙ ap (head_or 0) whole)
 
-      one-target : targets x.board.core ≡ turn ∷ []
-      one-target =
-          sequential-targets _ q.mask v t.cursor t.playing.ready mode
-          ∙ ap (λ (ks : List ℕ). head_or 0 (activeFrom t.cursor q.mask ++ ks) ∷ []) (sym (chosen_is q))
-          ∙ ap (λ (y : ℕ). y ∷ []) line-from.3
+      one_target : targets x.board.core ≡ turn ∷ []
+      one_target =
+          sequential_targets _ q.mask v t.cursor t.playing.ready mode
+          ∙ ap (λ (ks : List ℕ). head_or 0 (active_from t.cursor q.mask ++ ks) ∷ []) (sym (chosen_is q))
+          ∙ ap (λ (y : ℕ). y ∷ []) line_from.3
 
-      enough-left : length (targets x.board.core) ≤ length (drop (j * c + i) vs)
-      enough-left = omega (arith, ap length one-target, length-drop (j * c + i) vs, group-left j l)
+      enough_left : length (targets x.board.core) ≤ length (drop (j * c + i) vs)
+      enough_left = omega (arith, ap length one_target, length-drop (j * c + i) vs, group_left j l)
 
-      turn-plays : Coding (bit 4 v) (sample q (q.first + j) turn) (levelAt x' turn)
-      turn-plays =
-          let g = tick-given q.mask v _ t.cursor x t.playing some enough-left 0 (omega (arith, ap length one-target)) in
-          let g' = subst (λ (ks : List ℕ). Coding (bit 4 v) (get_or (drop (j * c + i) vs) 0 0) (levelAt x' (get_or ks 0 0))) one-target g in
-          value j i _ l k (subst (λ (w : ℕ). Coding (bit 4 v) w (levelAt x' turn)) (get_or-drop (j * c + i) vs 0 0 ∙ ap (λ (n : ℕ). get_or vs n 0) (add-zero (j * c + i))) g')
+      turn_plays : Coding (bit 4 v) (sample q (q.first + j) turn) (level_at x' turn)
+      turn_plays =
+          let g = tick_given q.mask v _ t.cursor x t.playing some enough_left 0 (omega (arith, ap length one_target)) in
+          let g' = subst (λ (ks : List ℕ). Coding (bit 4 v) (get_or (drop (j * c + i) vs) 0 0) (level_at x' (get_or ks 0 0))) one_target g in
+          value j i _ l k (subst (λ (w : ℕ). Coding (bit 4 v) w (level_at x' turn)) (get_or-drop (j * c + i) vs 0 0 ∙ ap (λ (n : ℕ). get_or vs n 0) (add-zero (j * c + i))) g')
 
-      turn_holds : (y : ℕ) → y ≢ turn → levelAt x' y ≡ levelAt x y
+      turn_holds : (y : ℕ) → y ≢ turn → level_at x' y ≡ level_at x y
       turn_holds y n =
-          (tick-moves q.mask v _ t.cursor x t.playing some enough-left).hold y
-          (λ a. ⊎_elim (λ e. n (sym e)) (among-nil y) (among-cons y turn [] (subst (Among y) one-target a)))
+          (tick_moves q.mask v _ t.cursor x t.playing some enough_left).hold y
+          (λ a. ⊎_elim (λ e. n (sym e)) (among_nil y) (among_cons y turn [] (subst (Among y) one_target a)))
 
-      turn-next : Turn j (suc i) x'
-      turn-next =
-          let m = tick-moves q.mask v _ t.cursor x t.playing some enough-left in
+      turn_next : Turn j (suc i) x'
+      turn_next =
+          let m = tick_moves q.mask v _ t.cursor x t.playing some enough_left in
           let moved : x'.board.core.outputs.cursor ≡ suc turn =
-          m.single (t.playing.ready.simultaneous ∙ mode) ∙ ap (λ (ks : List ℕ). get_or ks 0 0 + 1) one-target ∙ omega arith in
-          let n : j * c + i + length (targets x.board.core) ≡ j * c + suc i = omega (arith, ap length one-target) in
+          m.single (t.playing.ready.simultaneous ∙ mode) ∙ ap (λ (ks : List ℕ). get_or ks 0 0 + 1) one_target ∙ omega arith in
+          let n : j * c + i + length (targets x.board.core) ≡ j * c + suc i = omega (arith, ap length one_target) in
           record {
             cursor = suc turn;
             playing =
                 subst (λ (ws : List ℕ). Playing q.mask v ws (suc turn) x')
                 (drop-drop (length (targets x.board.core)) (j * c + i) vs ∙ ap (λ (y : ℕ). drop y vs) n)
-                (tick-playing q.mask v _ t.cursor x t.playing some enough-left (suc turn) moved);
-            line = inl (next-from line-from.0 q.mask turn (drop (suc i) (chosen q)) line-from.1 line-from.2);
+                (tick_playing q.mask v _ t.cursor x t.playing some enough_left (suc turn) moved);
+            line = inl (next_from line_from.0 q.mask turn (drop (suc i) (chosen q)) line_from.1 line_from.2);
           }
 
     -- the turns of a group, one after another
@@ -207,12 +207,12 @@ module _ (q : Cut) (o : Ordered q) (v : ℕ) (s : State) where
     turns j l t (suc i) k =
         let n : suc (j * c + i) ≡ j * c + suc i = omega arith in
         subst (λ (m : ℕ). Turn j (suc i) (at m)) n
-        (subst (Turn j (suc i)) (sym (after-tick (j * c + i) s)) (turn-next j i (at (j * c + i)) l k (turns j l t i (omega arith))))
+        (subst (Turn j (suc i)) (sym (after_tick (j * c + i) s)) (turn_next j i (at (j * c + i)) l k (turns j l t i (omega arith))))
 
     -- and of a group after another
-    first-turn : (j : ℕ) → j ≤ groups q → Turn j 0 (at (j * c))
+    first_turn : (j : ℕ) → j ≤ groups q → Turn j 0 (at (j * c))
     unfolding after
-    first-turn zero l =
+    first_turn zero l =
         let z : 0 * c ≡ 0 = omega arith in
         subst (λ (n : ℕ). Turn 0 0 (at n)) (sym z)
         (record {
@@ -220,8 +220,8 @@ module _ (q : Cut) (o : Ordered q) (v : ℕ) (s : State) where
           playing = subst (λ (n : ℕ). Playing q.mask v (drop (n + 0) vs) 0 s) (sym z) start;
           line = inl (sym (chosen_is q));
         })
-    first-turn (suc j) l =
-        let t = turns j l (first-turn j (omega arith)) c (omega arith) in
+    first_turn (suc j) l =
+        let t = turns j l (first_turn j (omega arith)) c (omega arith) in
         let n : j * c + c ≡ suc j * c = sym (suc-mul j c) in
         subst (λ (m : ℕ). Turn (suc j) 0 (at m)) n
         (record {
@@ -232,29 +232,29 @@ module _ (q : Cut) (o : Ordered q) (v : ℕ) (s : State) where
         })
 
     turn_at : (j i : ℕ) → j < groups q → i < c → Turn j i (at (j * c + i))
-    turn_at j i l k = turns j l (first-turn j (omega arith)) i (omega arith)
+    turn_at j i l k = turns j l (first_turn j (omega arith)) i (omega arith)
 
-    in-turn : InTurn q (bit 4 v) at c
-    in-turn =
+    in_turn_lem : InTurn q (bit 4 v) at c
+    in_turn_lem =
         record {
           plays = λ j i l k.
-              subst (λ (y : State). Coding (bit 4 v) (sample q (q.first + j) (get_or (chosen q) i 0)) (levelAt y (get_or (chosen q) i 0)))
-              (sym (after-tick (j * c + i) s))
-              (turn-plays j i (at (j * c + i)) l k (turn_at j i l k));
+              subst (λ (y : State). Coding (bit 4 v) (sample q (q.first + j) (get_or (chosen q) i 0)) (level_at y (get_or (chosen q) i 0)))
+              (sym (after_tick (j * c + i) s))
+              (turn_plays j i (at (j * c + i)) l k (turn_at j i l k));
           holds = λ j i y l k n.
-              ap (λ (x : State). levelAt x y) (after-tick (j * c + i) s) ∙ turn_holds j i (at (j * c + i)) l k (turn_at j i l k) y n;
+              ap (λ (x : State). level_at x y) (after_tick (j * c + i) s) ∙ turn_holds j i (at (j * c + i)) l k (turn_at j i l k) y n;
           over =
-              (first-turn (groups q) (omega arith)).playing.values ∙ drop_of_length-le vs {i = groups q * c + 0} (omega (arith, long));
+              (first_turn (groups q) (omega arith)).playing.values ∙ drop_of_length-le vs {i = groups q * c + 0} (omega (arith, long));
         }
 
 -- ---- From the power-up on
 
-pub plays-from : (q : Cut) (o : Ordered q) (v : ℕ) (s : State) → Playing q.mask v (eofOnLast (numbers q)) 0 s → OnItsOutput q v (λ n. after s (manyTicks n))
-plays-from q o v s p = record { simultaneous = λ m. together q o v s m p; sequential = λ m. in-turn q o v s m p }
+pub plays_from : (q : Cut) (o : Ordered q) (v : ℕ) (s : State) → Playing q.mask v (eof_on_last (numbers q)) 0 s → OnItsOutput q v (λ n. after s (many_ticks n))
+plays_from q o v s p = record { simultaneous = λ m. together q o v s m p; sequential = λ m. in_turn_lem q o v s m p }
 
 -- boards that are the same play the same
-pub same-boards : (q : Cut) (v : ℕ) (at at' : ℕ → State) → ((n : ℕ) → at n ≡ at' n) → OnItsOutput q v at → OnItsOutput q v at'
-same-boards q v at at' e h = subst (OnItsOutput q v) (λ i n. e n i) h
+pub same_boards : (q : Cut) (v : ℕ) (at at' : ℕ → State) → ((n : ℕ) → at n ≡ at' n) → OnItsOutput q v at → OnItsOutput q v at'
+same_boards q v at at' e h = subst (OnItsOutput q v) (λ i n. e n i) h
 
 -- the events es n on the board s, for each number n of ticks: nothing is refused or lost, and each channel plays on its output
 pub record PlaysOut (q : Cut) (v : ℕ) (s : State) (es : ℕ → List Event) : Type 0 where
@@ -262,30 +262,30 @@ pub record PlaysOut (q : Cut) (v : ℕ) (s : State) (es : ℕ → List Event) : 
   pub plays : OnItsOutput q v (λ n. after s (es n))
 
 -- two parts of a session that leave the board ready, and the ticks behind them
-pub parts-play : (q : Cut) (o : Ordered q) (v : ℕ) (s : State) (es fs : List Event) → Fine (outcomes s es) → Fine (outcomes (after s es) fs)
-    → Playing q.mask v (eofOnLast (numbers q)) 0 (after (after s es) fs)
-    → PlaysOut q v s (λ n. es ++ (fs ++ manyTicks n))
-parts-play q o v s es fs f g p =
+pub parts_play : (q : Cut) (o : Ordered q) (v : ℕ) (s : State) (es fs : List Event) → Fine (outcomes s es) → Fine (outcomes (after s es) fs)
+    → Playing q.mask v (eof_on_last (numbers q)) 0 (after (after s es) fs)
+    → PlaysOut q v s (λ n. es ++ (fs ++ many_ticks n))
+parts_play q o v s es fs f g p =
     record {
-      fine = λ n. fine-append s es (fs ++ manyTicks n) f (fine-append (after s es) fs (manyTicks n) g (ticks-fine n _ p.stands));
+      fine = λ n. fine_append s es (fs ++ many_ticks n) f (fine_append (after s es) fs (many_ticks n) g (ticks_fine n _ p.stands));
       plays =
-          same-boards q v _ _
-          (λ n. sym (after-append s es (fs ++ manyTicks n) ∙ after-append (after s es) fs (manyTicks n)))
-          (plays-from q o v (after (after s es) fs) p);
+          same_boards q v _ _
+          (λ n. sym (after_append s es (fs ++ many_ticks n) ∙ after_append (after s es) fs (many_ticks n)))
+          (plays_from q o v (after (after s es) fs) p);
     }
 
 -- the cut, then the two writes
-pub cut-then-writes : (q : Cut) (s : State) (x : Settings) (v w : ℕ) (two : List Event)
+pub cut_then_writes : (q : Cut) (s : State) (x : Settings) (v w : ℕ) (two : List Event)
     → Ordered q → Equipped q s x → Playable v w → EitherOrder v w two
-    → PlaysOut q v (powered s x) (λ n. events q ++ (two ++ manyTicks n))
-cut-then-writes q s x v w two o h p e =
-    let still = (initial-takes x).uncalibrating in
-    let d = cut-powered q s x o h in
-    let b = two-done v w p d.end still two e in
+    → PlaysOut q v (powered s x) (λ n. events q ++ (two ++ many_ticks n))
+cut_then_writes q s x v w two o h p e =
+    let still = (initial_takes x).uncalibrating in
+    let d = cut_powered q s x o h in
+    let b = two_done v w p d.end still two e in
     let r = b.written in
-    let twenty = ap length r.levels ∙ initial-twenty x in
-    parts-play q o v (powered s x) (events q) two d.fine b.fine
-    (board-playing b.end (ready-to-play v w p r still q.mask b.core.outputs r.mask (r.cursor refl) twenty))
+    let twenty = ap length r.levels ∙ initial_twenty x in
+    parts_play q o v (powered s x) (events q) two d.fine b.fine
+    (board_playing b.end (ready_to_play v w p r still q.mask b.core.outputs r.mask (r.cursor refl) twenty))
 
-pub channel-plays : Channel-plays
-channel-plays q s x v w two o h p e = (cut-then-writes q s x v w two o h p e).plays
+pub channel_plays : Channel-plays
+channel_plays q s x v w two o h p e = (cut_then_writes q s x v w two o h p e).plays

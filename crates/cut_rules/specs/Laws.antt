@@ -10,9 +10,9 @@ use Rattle.std.specs.Int.Count.{ones}
 use Rattle.rules.specs.declared.Event.TheVariants.{Read as read, Write as write}
 use Rattle.rules.specs.Bits.{bit}
 use Rattle.laws.specs.Moved.{ActiveAscending}
-use Rattle.file_rules.specs.Bytes.{fileOf}
+use Rattle.file_rules.specs.Bytes.{file_of}
 use Rattle.file_rules.specs.WritingLaws.{Reread}
-use Rattle.cut_rules.specs.Cut.{Cut, chosen, groups, numbers, eofOnLast, events, cutRefusal, cutEnd, cutOutput}
+use Rattle.cut_rules.specs.Cut.{Cut, chosen, groups, numbers, eof_on_last, events, cut_refusal, cut_end, cut_output}
 
 -- ---- What is taken
 
@@ -34,7 +34,7 @@ pub record GoodChoice (q : Cut) (n : ℕ) : Type 0 where
 -- With so many channels chosen, the i-th chosen channel of the j-th group cut stands at j times that many, and i more.
 pub record NumbersTold (q : Cut) : Type 0 where
   pub channels : ActiveAscending q.mask (chosen q)
-  pub groups-cut : groups q + q.first ≡ suc q.last
+  pub groups_cut : groups q + q.first ≡ suc q.last
   pub long : length (numbers q) ≡ groups q * ones q.mask
   pub there : (j i : ℕ) → j < groups q → i < ones q.mask
       → get_or (numbers q) (j * ones q.mask + i) 0 ≡ get_or q.recording ((q.first + j) * q.channels + get_or (chosen q) i 0) 0
@@ -44,9 +44,9 @@ Numbers-told = (q : Cut) (n : ℕ) → Grouped q n → GoodChoice q n → Number
 
 -- 02: "EOF on the very last and on no other"
 pub record EofTold (vs : List ℕ) : Type 0 where
-  pub long : length (eofOnLast vs) ≡ length vs
-  pub last : (i : ℕ) → suc i ≡ length vs → get_or (eofOnLast vs) i 0 ≡ get_or vs i 0 + 0x10000
-  pub others : (i : ℕ) → suc i < length vs → get_or (eofOnLast vs) i 0 ≡ get_or vs i 0
+  pub long : length (eof_on_last vs) ≡ length vs
+  pub last : (i : ℕ) → suc i ≡ length vs → get_or (eof_on_last vs) i 0 ≡ get_or vs i 0 + 0x10000
+  pub others : (i : ℕ) → suc i < length vs → get_or (eof_on_last vs) i 0 ≡ get_or vs i 0
 
 abbrev pub Eof-told : Type 0
 Eof-told = (vs : List ℕ) → EofTold vs
@@ -55,8 +55,8 @@ Eof-told = (vs : List ℕ) → EofTold vs
 pub record SessionTold (q : Cut) : Type 0 where
   pub many : length (events q) ≡ 1 + length (numbers q)
   pub mask : get_or (events q) 0 (read 0) ≡ write 0x04 q.mask
-  pub load : (i : ℕ) → i < length (numbers q) → get_or (events q) (suc i) (read 0) ≡ write 0x18 (get_or (eofOnLast (numbers q)) i 0)
-  pub bytes : length (fileOf (events q)) ≡ 1 + 8 * (1 + length (numbers q))
+  pub load : (i : ℕ) → i < length (numbers q) → get_or (events q) (suc i) (read 0) ≡ write 0x18 (get_or (eof_on_last (numbers q)) i 0)
+  pub bytes : length (file_of (events q)) ≡ 1 + 8 * (1 + length (numbers q))
 
 abbrev pub Session-told : Type 0
 Session-told = (q : Cut) → SessionTold q
@@ -65,27 +65,27 @@ Session-told = (q : Cut) → SessionTold q
 
 pub data CutGiven (q : Cut) (n place : ℕ) : ℕ → Type 0 where
   -- 02: "22 channels in a group not 1 to 20, or length no whole number of groups"
-  badGroup : (q.channels ≡ 0) ⊎ (20 < q.channels) → CutGiven q n place 22
-  partGroup : 1 ≤ q.channels → ((k : ℕ) → length q.recording ≢ k * q.channels) → CutGiven q n place 22
+  bad_group : (q.channels ≡ 0) ⊎ (20 < q.channels) → CutGiven q n place 22
+  part_group : 1 ≤ q.channels → ((k : ℕ) → length q.recording ≢ k * q.channels) → CutGiven q n place 22
   -- "23 empty choice, a channel outside the group, or groups out of range or reversed"
   empty : (g : ℕ) → Grouped q g → q.mask ≡ 0 → CutGiven q n place 23
   outside : (g : ℕ) → Grouped q g → (k : ℕ) → q.channels ≤ k → bit k q.mask ≡ true → CutGiven q n place 23
   reversed : (g : ℕ) → Grouped q g → q.last < q.first → CutGiven q n place 23
   beyond : (g : ℕ) → Grouped q g → g ≤ q.last → CutGiven q n place 23
   -- "then 20 and 21"
-  pastEnd : (g : ℕ) → Grouped q g → GoodChoice q g → n < place → CutGiven q n place 20
-  tooLong : (g : ℕ) → Grouped q g → GoodChoice q g → place ≤ n → n < place + (1 + 8 * (1 + groups q * ones q.mask)) → CutGiven q n place 21
+  past_end : (g : ℕ) → Grouped q g → GoodChoice q g → n < place → CutGiven q n place 20
+  too_long : (g : ℕ) → Grouped q g → GoodChoice q g → place ≤ n → n < place + (1 + 8 * (1 + groups q * ones q.mask)) → CutGiven q n place 21
   done : (g : ℕ) → Grouped q g → GoodChoice q g → place + (1 + 8 * (1 + groups q * ones q.mask)) ≤ n → CutGiven q n place 0
 
 abbrev pub Cut-exactly : Type 0
-Cut-exactly = (q : Cut) (n place m : ℕ) → (cutRefusal q n place ≡ m) ↔ CutGiven q n place m
+Cut-exactly = (q : Cut) (n place m : ℕ) → (cut_refusal q n place ≡ m) ↔ CutGiven q n place m
 
 -- 02, of the writer: "each answers place 0 and writes no byte"
 abbrev pub Cut-refused : Type 0
 Cut-refused =
     (q : Cut) (out : List ℕ) (place : ℕ)
-    → cutRefusal q (length out) place ≢ 0
-    → (cutEnd q (length out) place ≡ 0) × (cutOutput q out place ≡ out)
+    → cut_refusal q (length out) place ≢ 0
+    → (cut_end q (length out) place ≡ 0) × (cut_output q out place ≡ out)
 
 -- ---- Written and read
 
@@ -97,5 +97,5 @@ abbrev pub Cut-read : Type 0
 Cut-read =
     (q : Cut) (out : List ℕ) (place : ℕ)
     → Sixteen q.recording
-    → cutRefusal q (length out) place ≡ 0
-    → Reread (events q) out place (cutEnd q (length out) place) (cutOutput q out place)
+    → cut_refusal q (length out) place ≡ 0
+    → Reread (events q) out place (cut_end q (length out) place) (cut_output q out place)

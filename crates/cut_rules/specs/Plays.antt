@@ -7,25 +7,25 @@ use Rattle.std.specs.Prelude.{ℕ, suc, ◌+◌, ◌*◌, ◌≤◌, ◌<◌, �
 use Rattle.std.proofs.Math.Seq.{slice}
 use Rattle.rules.specs.declared.Settings.{Settings}
 use Rattle.rules.specs.declared.Event.{Event}
-use Rattle.rules.specs.declared.Event.TheVariants.{PowerUp as powerUp, Write as write, Signal as signal}
+use Rattle.rules.specs.declared.Event.TheVariants.{PowerUp as power_up, Write as write, Signal as signal}
 use Rattle.rules.specs.declared.Signal.TheVariants.{Tick as tick}
 use Rattle.rules.specs.Bits.{bit}
 use Rattle.rules.specs.Record.{State, depth_of, channels, stored, start}
 use Rattle.rules.specs.Refusals.{refusal}
 use Rattle.rules.specs.Step.{Outcome, step}
 use Rattle.rules.specs.Session.{outcomes, after}
-use Rattle.laws.specs.Moved.{Coding, levelAt}
+use Rattle.laws.specs.Moved.{Coding, level_at}
 use Rattle.file_rules.specs.declared.End.TheVariants.{File}
 use Rattle.file_rules.specs.File.{session}
-use Rattle.file_rules.specs.Bytes.{bytes_of, recordsOf}
-use Rattle.cut_rules.specs.Cut.{Cut, sample, chosen, groups, numbers, eofOnLast, events, cutRefusal, cutEnd, cutOutput}
+use Rattle.file_rules.specs.Bytes.{bytes_of, records_of}
+use Rattle.cut_rules.specs.Cut.{Cut, sample, chosen, groups, numbers, eof_on_last, events, cut_refusal, cut_end, cut_output}
 use Rattle.cut_rules.specs.Laws.{Grouped, GoodChoice, Sixteen}
 
 -- ---- The board and the order
 
 -- 02: "right after an accepted power-up, with the channels fitted and depth enough"
 pub record Equipped (q : Cut) (s : State) (x : Settings) : Type 0 where
-  pub accepted : refusal s (powerUp x) ≡ 0
+  pub accepted : refusal s (power_up x) ≡ 0
   pub outputs : (k : ℕ) → bit k q.mask ≡ true → k < channels x.kit
   pub room : length (numbers q) ≤ depth_of x.fitted
 
@@ -37,7 +37,7 @@ pub record Ordered (q : Cut) : Type 0 where
   pub sixteen : Sixteen q.recording
 
 abbrev pub powered : State → Settings → State
-powered s x = (step s (powerUp x)).state
+powered s x = (step s (power_up x)).state
 
 -- ---- What is stored
 
@@ -48,7 +48,7 @@ pub data Fine : List Outcome → Type 0 where
 
 pub record StoredInOrder (q : Cut) (s : State) : Type 0 where
   pub fine : Fine (outcomes s (events q))
-  pub values : stored (after s (events q)) ≡ eofOnLast (numbers q)
+  pub values : stored (after s (events q)) ≡ eof_on_last (numbers q)
 
 -- 02: "Its events, right after an accepted power-up, with the channels fitted and depth enough, store exactly the chosen numbers in
 -- recording order."
@@ -60,9 +60,9 @@ Cut-stored = (q : Cut) (s : State) (x : Settings) → Ordered q → Equipped q s
 -- one write to 00h and one to 0Ch: no bursts, no calibration, no initialise; own clock, enabled, not circular, not emptied. All other
 -- bits are free: D7 of v is the output mode, D4 of v the coding.
 pub record Playable (v w : ℕ) : Type 0 where
-  pub noBursts : bit 0 v ≡ false
-  pub noCalibration : bit 13 v ≡ false
-  pub noInitialise : bit 15 v ≡ false
+  pub no_bursts : bit 0 v ≡ false
+  pub no_calibration : bit 13 v ≡ false
+  pub no_initialise : bit 15 v ≡ false
   pub generator : bit 4 w ≡ false
   pub enabled : bit 5 w ≡ true
   pub uncircled : bit 8 w ≡ false
@@ -70,24 +70,24 @@ pub record Playable (v w : ℕ) : Type 0 where
 
 -- in either order
 pub data EitherOrder (v w : ℕ) : List Event → Type 0 where
-  controlFirst : EitherOrder v w (write 0x00 v ∷ write 0x0C w ∷ [])
-  bufferFirst : EitherOrder v w (write 0x0C w ∷ write 0x00 v ∷ [])
+  control_first : EitherOrder v w (write 0x00 v ∷ write 0x0C w ∷ [])
+  buffer_first : EitherOrder v w (write 0x0C w ∷ write 0x00 v ∷ [])
 
-abbrev pub manyTicks : ℕ → List Event
-manyTicks n = replicate n (signal tick)
+abbrev pub many_ticks : ℕ → List Event
+many_ticks n = replicate n (signal tick)
 
 -- Simultaneous mode; `at n` is the board after n ticks. The tick after the j-th puts the number of channel k of the j-th group cut, counted
 -- from 0, on output k, for every chosen k, and leaves every other output.
 pub record GroupByGroup (q : Cut) (binary : Bool) (at : ℕ → State) : Type 0 where
-  pub plays : (j k : ℕ) → j < groups q → bit k q.mask ≡ true → Coding binary (sample q (q.first + j) k) (levelAt (at (suc j)) k)
-  pub holds : (j k : ℕ) → j < groups q → bit k q.mask ≡ false → levelAt (at (suc j)) k ≡ levelAt (at j) k
+  pub plays : (j k : ℕ) → j < groups q → bit k q.mask ≡ true → Coding binary (sample q (q.first + j) k) (level_at (at (suc j)) k)
+  pub holds : (j k : ℕ) → j < groups q → bit k q.mask ≡ false → level_at (at (suc j)) k ≡ level_at (at j) k
   pub over : stored (at (groups q)) ≡ []
 
 -- Sequential mode, with c chosen channels: tick j · c + i + 1 does so for the i-th chosen channel alone.
 pub record InTurn (q : Cut) (binary : Bool) (at : ℕ → State) (c : ℕ) : Type 0 where
   pub plays : (j i : ℕ) → j < groups q → i < c
-      → Coding binary (sample q (q.first + j) (get_or (chosen q) i 0)) (levelAt (at (suc (j * c + i))) (get_or (chosen q) i 0))
-  pub holds : (j i k : ℕ) → j < groups q → i < c → k ≢ get_or (chosen q) i 0 → levelAt (at (suc (j * c + i))) k ≡ levelAt (at (j * c + i)) k
+      → Coding binary (sample q (q.first + j) (get_or (chosen q) i 0)) (level_at (at (suc (j * c + i))) (get_or (chosen q) i 0))
+  pub holds : (j i k : ℕ) → j < groups q → i < c → k ≢ get_or (chosen q) i 0 → level_at (at (suc (j * c + i))) k ≡ level_at (at (j * c + i)) k
   pub over : stored (at (groups q * c)) ≡ []
 
 -- Channel k of a group plays on output k.
@@ -102,17 +102,17 @@ Channel-plays =
     → Equipped q s x
     → Playable v w
     → EitherOrder v w two
-    → OnItsOutput q v (λ n. after (powered s x) (events q ++ (two ++ manyTicks n)))
+    → OnItsOutput q v (λ n. after (powered s x) (events q ++ (two ++ many_ticks n)))
 
 -- ---- From bytes
 
 -- the file: 01, the record of the power-up, the cutter's bytes from its second on, those of the two writes and of n ticks
 abbrev pub shipped : Settings → List ℕ → List Event → ℕ → List ℕ
-shipped x cut two n = 1 ∷ bytes_of (powerUp x) ++ (cut ++ recordsOf (two ++ manyTicks n))
+shipped x cut two n = 1 ∷ bytes_of (power_up x) ++ (cut ++ records_of (two ++ many_ticks n))
 
 -- the output of a call that is not refused, from the byte after the version byte to where the cutter stopped
-abbrev pub cutBytes : Cut → List ℕ → ℕ → List ℕ
-cutBytes q out place = slice (suc place) (cutEnd q (length out) place) (cutOutput q out place)
+abbrev pub cut_bytes : Cut → List ℕ → ℕ → List ℕ
+cut_bytes q out place = slice (suc place) (cut_end q (length out) place) (cut_output q out place)
 
 -- of a file with n ticks, read and run over the memory m
 pub record PlaysRead (q : Cut) (v : ℕ) (m : List ℕ) (file : ℕ → List ℕ) : Type 0 where
@@ -125,10 +125,10 @@ abbrev pub Shipped-plays : Type 0
 Shipped-plays =
     (q : Cut) (x : Settings) (v w : ℕ) (two : List Event) (m out : List ℕ) (place : ℕ)
     → Sixteen q.recording
-    → cutRefusal q (length out) place ≡ 0
+    → cut_refusal q (length out) place ≡ 0
     → Equipped q (start m) x
     → Playable v w
     → v < 2 ^ 32
     → w < 2 ^ 32
     → EitherOrder v w two
-    → PlaysRead q v m (shipped x (cutBytes q out place) two)
+    → PlaysRead q v m (shipped x (cut_bytes q out place) two)

@@ -8,14 +8,14 @@ use native.Mathlib.Omega.{arith}
 use lib.ListN.{take}
 use Rattle.rules.specs.declared.Core.{Core}
 use Rattle.rules.specs.declared.Event.{Event}
-use Rattle.rules.specs.declared.Event.TheVariants.{PowerUp as powerUp, Write as write, Read as read, Signal as signal}
+use Rattle.rules.specs.declared.Event.TheVariants.{PowerUp as power_up, Write as write, Read as read, Signal as signal}
 use Rattle.rules.specs.Bits.{all}
-use Rattle.rules.specs.Record.{State, values, stored, soundCore, unpowered, start}
+use Rattle.rules.specs.Record.{State, values, stored, sound_core, unpowered, start}
 use Rattle.rules.specs.Clocks.{closed}
 use Rattle.rules.specs.Step.{Outcome, step}
 use Rattle.rules.specs.Session.{outcomes, after}
 use Rattle.demand3.specs.Demand3.{NeverLower, same, deeper, larger, AllNeverLower, none, next, PowerUpAccepted, PowerUpsAccepted, NothingLost, NoQuarters, Alike, SameAnswers, Agree, Demand3, Demand3-from-any, Demand3-as-ordered, PowerUpAlike, PowerUpsAlike, Demand3-alike}
-use Rattle.demand3.proofs.TwoRuns.{Related, Together, step-together, up-request, power-up-together}
+use Rattle.demand3.proofs.TwoRuns.{Related, Together, step_together, up_request, power_up_together}
 
 -- ---- Two runs from related states
 
@@ -31,7 +31,7 @@ runs : (s s' : State) {es es' : List Event} → AllNeverLower es es' → Related
 unfolding outcomes after PowerUpsAlike NothingLost NoQuarters
 runs s s' none r a l = record { lossless = tt; related = r; answers = none; request = λ q h. h }
 runs s s' (next {e} {e'} {es} {es'} w ws) r a l =
-    let t : Together s s' (step s e) (step s' e') = step-together s s' w r a.0 (λ h. l.0 (omega (arith, h))) in
+    let t : Together s s' (step s e) (step s' e') = step_together s s' w r a.0 (λ h. l.0 (omega (arith, h))) in
     let u : Both (step s e).state es (step s' e').state es' = runs (step s e).state (step s' e').state ws t.related a.1 l.1 in
     record {
       lossless = (λ h. l.0 (omega (arith, h, t.fate)), u.lossless);
@@ -40,8 +40,8 @@ runs s s' (next {e} {e'} {es} {es'} w ws) r a l =
       request = λ q h. u.request q.1 (t.request q.0 h);
     }
 
-related-alike : (s s' : State) → Related s s' → Alike s s'
-related-alike s s' r =
+related_alike : (s s' : State) → Related s s' → Alike s s'
+related_alike s s' r =
     record {
       levels = ap (λ (c : Core). c.outputs.levels) r.core;
       values = r.lists;
@@ -57,7 +57,7 @@ agree s s' w r q a l =
     let b = runs s s' w r a l in
     record {
       lossless = b.lossless;
-      alike = related-alike _ _ b.related;
+      alike = related_alike _ _ b.related;
       core = b.related.core;
       answers = b.answers;
       request = λ n. b.request n q;
@@ -65,45 +65,45 @@ agree s s' w r q a l =
 
 -- ---- "every power-up accepted in both": so each gets the same number, 0
 
-one-accepted : {e e' : Event} (o o' : Outcome) → NeverLower e e' → PowerUpAccepted e o → PowerUpAccepted e' o' → PowerUpAlike e o o'
-one-accepted o o' (deeper x d h) a a' = a ∙ sym a'
-one-accepted o o' (larger v v' h l) a a' = tt
-one-accepted o o' (same (powerUp x)) a a' = a ∙ sym a'
-one-accepted o o' (same (write b v)) a a' = tt
-one-accepted o o' (same (read b)) a a' = tt
-one-accepted o o' (same (signal x)) a a' = tt
+one_accepted : {e e' : Event} (o o' : Outcome) → NeverLower e e' → PowerUpAccepted e o → PowerUpAccepted e' o' → PowerUpAlike e o o'
+one_accepted o o' (deeper x d h) a a' = a ∙ sym a'
+one_accepted o o' (larger v v' h l) a a' = tt
+one_accepted o o' (same (power_up x)) a a' = a ∙ sym a'
+one_accepted o o' (same (write b v)) a a' = tt
+one_accepted o o' (same (read b)) a a' = tt
+one_accepted o o' (same (signal x)) a a' = tt
 
-pub all-accepted : (s s' : State) {es es' : List Event} → AllNeverLower es es' → PowerUpsAccepted s es → PowerUpsAccepted s' es' → PowerUpsAlike s es s' es'
+pub all_accepted_lem : (s s' : State) {es es' : List Event} → AllNeverLower es es' → PowerUpsAccepted s es → PowerUpsAccepted s' es' → PowerUpsAlike s es s' es'
 unfolding PowerUpsAccepted PowerUpsAlike
-all-accepted s s' none a a' = tt
-all-accepted s s' (next w ws) a a' = (one-accepted _ _ w a.0 a'.0, all-accepted _ _ ws a.1 a'.1)
+all_accepted_lem s s' none a a' = tt
+all_accepted_lem s s' (next w ws) a a' = (one_accepted _ _ w a.0 a'.0, all_accepted_lem _ _ ws a.1 a'.1)
 
 -- ---- Beginnings
 
-pub lower-take : (n : ℕ) {es es' : List Event} → AllNeverLower es es' → AllNeverLower (take n es) (take n es')
-lower-take zero w = none
-lower-take (suc n) none = none
-lower-take (suc n) (next w ws) = next w (lower-take n ws)
+pub lower_take : (n : ℕ) {es es' : List Event} → AllNeverLower es es' → AllNeverLower (take n es) (take n es')
+lower_take zero w = none
+lower_take (suc n) none = none
+lower_take (suc n) (next w ws) = next w (lower_take n ws)
 
-pub accepted-take : (n : ℕ) (s : State) (es : List Event) → PowerUpsAccepted s es → PowerUpsAccepted s (take n es)
+pub accepted_take : (n : ℕ) (s : State) (es : List Event) → PowerUpsAccepted s es → PowerUpsAccepted s (take n es)
 unfolding PowerUpsAccepted
-accepted-take zero s es a = tt
-accepted-take (suc n) s [] a = tt
-accepted-take (suc n) s (e ∷ es) a = (a.0, accepted-take n _ es a.1)
+accepted_take zero s es a = tt
+accepted_take (suc n) s [] a = tt
+accepted_take (suc n) s (e ∷ es) a = (a.0, accepted_take n _ es a.1)
 
-pub quarters-take : (n : ℕ) (s : State) (es : List Event) → NoQuarters s es → NoQuarters s (take n es)
+pub quarters_take : (n : ℕ) (s : State) (es : List Event) → NoQuarters s es → NoQuarters s (take n es)
 unfolding NoQuarters
-quarters-take zero s [] q = q
-quarters-take zero s (e ∷ es) q = q.0
-quarters-take (suc n) s [] q = q
-quarters-take (suc n) s (e ∷ es) q = (q.0, quarters-take n _ es q.1)
+quarters_take zero s [] q = q
+quarters_take zero s (e ∷ es) q = q.0
+quarters_take (suc n) s [] q = q
+quarters_take (suc n) s (e ∷ es) q = (q.0, quarters_take n _ es q.1)
 
 -- ---- The demand
 
 -- an unpowered record is not sound, and holds nothing
-unpowered-related : (m m' : List ℕ) → Related (start m) (start m')
-unfolding unpowered soundCore all stored values
-unpowered-related m m' =
+unpowered_related : (m m' : List ℕ) → Related (start m) (start m')
+unfolding unpowered sound_core all stored values
+unpowered_related m m' =
     record {
       core = refl;
       size = record { fitted = le_refl 0; code = le_refl 0 };
@@ -112,18 +112,18 @@ unpowered-related m m' =
       fit' = λ e. absurd (false≢true e);
     }
 
-pub demand3-alike : Demand3-alike
-demand3-alike m m' es es' w n a l = agree (start m) (start m') (lower-take n w) (unpowered-related m m') refl a l
+pub demand3_alike : Demand3-alike
+demand3_alike m m' es es' w n a l = agree (start m) (start m') (lower_take n w) (unpowered_related m m') refl a l
 
 pub demand3 : Demand3
-demand3 m m' es es' w n a a' l = demand3-alike m m' es es' w n (all-accepted _ _ (lower-take n w) a a') l
+demand3 m m' es es' w n a a' l = demand3_alike m m' es es' w n (all_accepted_lem _ _ (lower_take n w) a a') l
 
-pub demand3-from-any : Demand3-from-any
-demand3-from-any s s' x x' es es' u a a' w n b b' l =
-    let t = power-up-together s s' u a a' in
-    agree _ _ (lower-take n w) t.related (up-request s x a ∙ sym (up-request s' x' a')) (all-accepted _ _ (lower-take n w) b b') l
+pub demand3_from_any : Demand3-from-any
+demand3_from_any s s' x x' es es' u a a' w n b b' l =
+    let t = power_up_together s s' u a a' in
+    agree _ _ (lower_take n w) t.related (up_request s x a ∙ sym (up_request s' x' a')) (all_accepted_lem _ _ (lower_take n w) b b') l
 
-pub demand3-as-ordered : Demand3-as-ordered
-demand3-as-ordered m m' es es' w a a' n l =
-    let g = demand3 m m' es es' w n (accepted-take n (start m) es a) (accepted-take n (start m') es' a') l in
-    (g.lossless, g.alike, λ q. g.request (quarters-take n (start m) es q))
+pub demand3_as_ordered : Demand3-as-ordered
+demand3_as_ordered m m' es es' w a a' n l =
+    let g = demand3 m m' es es' w n (accepted_take n (start m) es a) (accepted_take n (start m') es' a') l in
+    (g.lossless, g.alike, λ q. g.request (quarters_take n (start m) es q))

@@ -8,27 +8,27 @@ use lib.ListN.{take}
 use Rattle.rules.specs.declared.Event.{Event}
 use Rattle.rules.specs.Record.{State}
 use Rattle.rules.specs.Step.{step}
-use Rattle.rules.proofs.Choice.{and_both, both-and}
-use Rattle.demand3.specs.Demand3.{NothingLost, losesNothing, Lossless-test}
+use Rattle.rules.proofs.Choice.{and_both, both_and}
+use Rattle.demand3.specs.Demand3.{NothingLost, loses_nothing, Lossless-test}
 
-tested : (s : State) (es : List Event) → losesNothing s es ≡ true → NothingLost s es
-unfolding losesNothing NothingLost
+tested : (s : State) (es : List Event) → loses_nothing s es ≡ true → NothingLost s es
+unfolding loses_nothing NothingLost
 tested s [] h = tt
 tested s (e ∷ es) h =
     let t = and_both _ _ h in
     (eqb-false _ 2 (not-true _ t.0), tested (step s e).state es t.1)
 
-lossless : (s : State) (es : List Event) → NothingLost s es → losesNothing s es ≡ true
-unfolding losesNothing NothingLost
+lossless : (s : State) (es : List Event) → NothingLost s es → loses_nothing s es ≡ true
+unfolding loses_nothing NothingLost
 lossless s [] h = refl
-lossless s (e ∷ es) h = both-and _ _ (ap not (ne_eqb _ 2 h.0)) (lossless (step s e).state es h.1)
+lossless s (e ∷ es) h = both_and _ _ (ap not (ne_eqb _ 2 h.0)) (lossless (step s e).state es h.1)
 
-pub lossless-test : Lossless-test
-lossless-test s es = (tested s es, lossless s es)
+pub lossless_test : Lossless-test
+lossless_test s es = (tested s es, lossless s es)
 
 -- and so does each beginning of it
-pub lossless-take : (n : ℕ) (s : State) (es : List Event) → NothingLost s es → NothingLost s (take n es)
+pub lossless_take : (n : ℕ) (s : State) (es : List Event) → NothingLost s es → NothingLost s (take n es)
 unfolding NothingLost
-lossless-take zero s es h = tt
-lossless-take (suc n) s [] h = tt
-lossless-take (suc n) s (e ∷ es) h = (h.0, lossless-take n _ es h.1)
+lossless_take zero s es h = tt
+lossless_take (suc n) s [] h = tt
+lossless_take (suc n) s (e ∷ es) h = (h.0, lossless_take n _ es h.1)

@@ -7,7 +7,7 @@
 use Rattle.std.specs.Prelude.{ℕ, ◌/◌, ◌%◌, ◌≤◌, ◌≡◌, ◌≢◌, ◌↔◌, Bool, true, not, ◌&&◌, List, [], ◌∷◌, eqb, take}
 use Rattle.rules.specs.declared.Settings.{Settings}
 use Rattle.rules.specs.declared.Event.{Event}
-use Rattle.rules.specs.declared.Event.TheVariants.{PowerUp as powerUp, Write as write, Read as read, Signal as signal}
+use Rattle.rules.specs.declared.Event.TheVariants.{PowerUp as power_up, Write as write, Read as read, Signal as signal}
 use Rattle.rules.specs.Record.{State, stored, start}
 use Rattle.rules.specs.Clocks.{closed}
 use Rattle.rules.specs.Step.{Outcome, step}
@@ -21,7 +21,7 @@ refitted d x = record { fitted = d; range = x.range; filter = x.filter; kit = x.
 -- The events of the two runs are the same, but for the fitted code of a power-up and the size code (D3..0) of a write to 0Ch.
 pub data NeverLower : Event → Event → Type 0 where
   same : (e : Event) → NeverLower e e
-  deeper : (x : Settings) (d : ℕ) → x.fitted ≤ d → NeverLower (powerUp x) (powerUp (refitted d x))
+  deeper : (x : Settings) (d : ℕ) → x.fitted ≤ d → NeverLower (power_up x) (power_up (refitted d x))
   larger : (v v' : ℕ) → v / 16 ≡ v' / 16 → v % 16 ≤ v' % 16 → NeverLower (write 0x0C v) (write 0x0C v')
 
 pub data AllNeverLower : List Event → List Event → Type 0 where
@@ -31,7 +31,7 @@ pub data AllNeverLower : List Event → List Event → Type 0 where
 -- ---- "every power-up accepted"
 
 abbrev pub PowerUpAccepted : Event → Outcome → Type 0
-PowerUpAccepted (powerUp x) o = o.answer.refusal ≡ 0
+PowerUpAccepted (power_up x) o = o.answer.refusal ≡ 0
 PowerUpAccepted (write a v) o = Unit {0}
 PowerUpAccepted (read a) o = Unit {0}
 PowerUpAccepted (signal x) o = Unit {0}
@@ -47,12 +47,12 @@ NothingLost s [] = Unit {0}
 NothingLost s (e ∷ es) = ((step s e).answer.fate ≢ 2) × NothingLost (step s e).state es
 
 -- the same as a test
-unfoldable pub losesNothing : State → List Event → Bool
-losesNothing s [] = true
-losesNothing s (e ∷ es) = not (eqb (step s e).answer.fate 2) && losesNothing (step s e).state es
+unfoldable pub loses_nothing : State → List Event → Bool
+loses_nothing s [] = true
+loses_nothing s (e ∷ es) = not (eqb (step s e).answer.fate 2) && loses_nothing (step s e).state es
 
 abbrev pub Lossless-test : Type 0
-Lossless-test = (s : State) (es : List Event) → (losesNothing s es ≡ true) ↔ NothingLost s es
+Lossless-test = (s : State) (es : List Event) → (loses_nothing s es ≡ true) ↔ NothingLost s es
 
 -- ---- "neither quarter-full interrupt is ever selected": in no state of the run, from its first to its last
 
@@ -114,15 +114,15 @@ Demand3 =
 abbrev pub Demand3-from-any : Type 0
 Demand3-from-any =
     (s s' : State) (x x' : Settings) (es es' : List Event)
-    → NeverLower (powerUp x) (powerUp x')
-    → (step s (powerUp x)).answer.refusal ≡ 0
-    → (step s' (powerUp x')).answer.refusal ≡ 0
+    → NeverLower (power_up x) (power_up x')
+    → (step s (power_up x)).answer.refusal ≡ 0
+    → (step s' (power_up x')).answer.refusal ≡ 0
     → AllNeverLower es es'
     → (n : ℕ)
-    → PowerUpsAccepted (step s (powerUp x)).state (take n es)
-    → PowerUpsAccepted (step s' (powerUp x')).state (take n es')
-    → NothingLost (step s (powerUp x)).state (take n es)
-    → Agree (step s (powerUp x)).state (take n es) (step s' (powerUp x')).state (take n es')
+    → PowerUpsAccepted (step s (power_up x)).state (take n es)
+    → PowerUpsAccepted (step s' (power_up x')).state (take n es')
+    → NothingLost (step s (power_up x)).state (take n es)
+    → Agree (step s (power_up x)).state (take n es) (step s' (power_up x')).state (take n es')
 
 -- In the order's own words: every power-up of the whole session accepted, no quarter selected in the whole session.
 abbrev pub Demand3-as-ordered : Type 0
@@ -141,7 +141,7 @@ Demand3-as-ordered =
 
 -- a power-up gets the same number in both runs: both accept it, or both refuse it alike
 abbrev pub PowerUpAlike : Event → Outcome → Outcome → Type 0
-PowerUpAlike (powerUp x) o o' = o.answer.refusal ≡ o'.answer.refusal
+PowerUpAlike (power_up x) o o' = o.answer.refusal ≡ o'.answer.refusal
 PowerUpAlike (write a v) o o' = Unit {0}
 PowerUpAlike (read a) o o' = Unit {0}
 PowerUpAlike (signal x) o o' = Unit {0}

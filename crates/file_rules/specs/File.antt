@@ -6,12 +6,12 @@
 use Rattle.std.specs.Prelude.{ℕ, zero, suc, ◌+◌, ◌*◌, ◌≤◌, ◌<◌, ◌≡◌, cond, List, [], ◌∷◌, leb, ltb, eqb, length, get_or}
 use Rattle.rules.specs.declared.Settings.{Settings}
 use Rattle.rules.specs.declared.Event.{Event}
-use Rattle.rules.specs.declared.Event.TheVariants.{PowerUp as powerUp, Write as write, Read as read, Signal as signal}
+use Rattle.rules.specs.declared.Event.TheVariants.{PowerUp as power_up, Write as write, Read as read, Signal as signal}
 use Rattle.rules.specs.declared.Signal.{Signal}
 use Rattle.rules.specs.declared.Signal.TheVariants.{Tick as tick, Outside as outside, Trigger as trigger}
 use Rattle.rules.specs.declared.Signal.TheVariants.{Passed as passed, Failed as failed, Settled as settled}
 use Rattle.file_rules.specs.declared.Fault.{Fault}
-use Rattle.file_rules.specs.declared.Fault.TheVariants.{Version as version, Cut as cut, Length as wrongLength, Kind as unknownKind}
+use Rattle.file_rules.specs.declared.Fault.TheVariants.{Version as version, Cut as cut, Length as wrong_length, Kind as unknown_kind}
 use Rattle.file_rules.specs.declared.End.{End}
 use Rattle.file_rules.specs.declared.End.TheVariants.{File as fileEnd, Refused as refusedAt}
 use Rattle.file_rules.specs.declared.Item.{Item}
@@ -21,11 +21,11 @@ use Rattle.file_rules.specs.declared.Item.TheVariants.{Got as got, Over as over}
 
 -- 01: "10 session file empty or its first byte not 01", "11 file ends inside a record", "12 record length wrong for its kind, or 0",
 -- "13 unknown record kind"
-unfoldable pub faultNumber : Fault → ℕ
-faultNumber version = 10
-faultNumber cut = 11
-faultNumber wrongLength = 12
-faultNumber unknownKind = 13
+unfoldable pub fault_number : Fault → ℕ
+fault_number version = 10
+fault_number cut = 11
+fault_number wrong_length = 12
+fault_number unknown_kind = 13
 
 -- how a file ends, in numbers: 01's refusal number, 0 where it ends with its last byte, and "p: byte where the record starts"
 pub record Verdict : Type 0 where
@@ -34,7 +34,7 @@ pub record Verdict : Type 0 where
 
 abbrev pub verdict : End → Verdict
 verdict fileEnd = record { number = 0; place = 0 }
-verdict (refusedAt why p) = record { number = faultNumber why; place = p }
+verdict (refusedAt why p) = record { number = fault_number why; place = p }
 
 -- ---- Bytes
 
@@ -45,8 +45,8 @@ byte_at s at = get_or s at 0
 abbrev pub word_at : List ℕ → ℕ → ℕ
 word_at s at = 256 * byte_at s at + byte_at s (at + 1)
 
-abbrev pub quadAt : List ℕ → ℕ → ℕ
-quadAt s at = 65536 * word_at s at + word_at s (at + 2)
+abbrev pub quad_at : List ℕ → ℕ → ℕ
+quad_at s at = 65536 * word_at s at + word_at s (at + 2)
 
 -- ---- Records
 
@@ -59,8 +59,8 @@ length_of kind =
     (cond (leb 4 kind) (cond (leb kind 9) 1 0) 0)))
 
 -- 01: "4 tick, 5 outside clock, 6 trigger, 7 calibration passed, 8 failed, 9 settled"
-unfoldable pub signalOf : ℕ → Signal
-signalOf kind =
+unfoldable pub signal_of : ℕ → Signal
+signal_of kind =
     cond (eqb kind 4) tick
     (cond (eqb kind 5) outside
     (cond (eqb kind 6) trigger
@@ -68,8 +68,8 @@ signalOf kind =
     (cond (eqb kind 8) failed settled))))
 
 -- "d, range, filter, kit, firmware in two bytes"
-abbrev pub settingsAt : List ℕ → ℕ → Settings
-settingsAt s at =
+abbrev pub settings_at : List ℕ → ℕ → Settings
+settings_at s at =
     record {
       fitted = byte_at s at;
       range = byte_at s (at + 1);
@@ -79,35 +79,35 @@ settingsAt s at =
     }
 
 -- the event of a kind: "1 power-up (..)", "2 write (offset, value ..)", "3 read (offset)", and the signals
-unfoldable pub eventOf : ℕ → ℕ → ℕ → Settings → Event
-eventOf kind offset value settings =
-    cond (eqb kind 1) (powerUp settings)
+unfoldable pub event_of : ℕ → ℕ → ℕ → Settings → Event
+event_of kind offset value settings =
+    cond (eqb kind 1) (power_up settings)
     (cond (eqb kind 2) (write offset value)
-    (cond (eqb kind 3) (read offset) (signal (signalOf kind))))
+    (cond (eqb kind 3) (read offset) (signal (signal_of kind))))
 
 -- whose kind stands at a place: "(offset, value in four)"
-unfoldable pub eventAt : List ℕ → ℕ → Event
-eventAt s at = eventOf (byte_at s at) (byte_at s (at + 1)) (quadAt s (at + 2)) (settingsAt s (at + 1))
+unfoldable pub event_at : List ℕ → ℕ → Event
+event_at s at = event_of (byte_at s at) (byte_at s (at + 1)) (quad_at s (at + 2)) (settings_at s (at + 1))
 
 -- of a record that is whole: "length 0 (12), 13, 12"
-unfoldable pub wholeRecord : List ℕ → ℕ → Item
-wholeRecord s at =
-    cond (eqb (word_at s at) 0) (over (refusedAt wrongLength at))
-    (cond (eqb (length_of (byte_at s (at + 2))) 0) (over (refusedAt unknownKind at))
-    (cond (eqb (word_at s at) (length_of (byte_at s (at + 2)))) (got (eventAt s (at + 2)) (at + 2 + word_at s at))
-    (over (refusedAt wrongLength at))))
+unfoldable pub whole_record : List ℕ → ℕ → Item
+whole_record s at =
+    cond (eqb (word_at s at) 0) (over (refusedAt wrong_length at))
+    (cond (eqb (length_of (byte_at s (at + 2))) 0) (over (refusedAt unknown_kind at))
+    (cond (eqb (word_at s at) (length_of (byte_at s (at + 2)))) (got (event_at s (at + 2)) (at + 2 + word_at s at))
+    (over (refusedAt wrong_length at))))
 
 -- 01: "then per record 11, length 0 (12), 13, 12"
-unfoldable pub recordAt : List ℕ → ℕ → Item
-recordAt s at =
+unfoldable pub record_at : List ℕ → ℕ → Item
+record_at s at =
     cond (leb (length s) at) (over fileEnd)
     (cond (ltb (length s) (at + 2)) (over (refusedAt cut at))
-    (cond (ltb (length s) (at + 2 + word_at s at)) (over (refusedAt cut at)) (wholeRecord s at)))
+    (cond (ltb (length s) (at + 2 + word_at s at)) (over (refusedAt cut at)) (whole_record s at)))
 
 -- 01: "Byte 01, then records"; "file 10, then .."
 unfoldable pub item_at : List ℕ → ℕ → Item
-item_at s zero = cond (eqb (byte_at s 0) 1) (recordAt s 1) (over (refusedAt version 0))
-item_at s (suc at) = recordAt s (suc at)
+item_at s zero = cond (eqb (byte_at s 0) 1) (record_at s 1) (over (refusedAt version 0))
+item_at s (suc at) = record_at s (suc at)
 
 -- ---- The whole file
 
@@ -116,14 +116,14 @@ pub record Session : Type 0 where
   pub end : End
 
 -- `rest` is the session from a later place on
-abbrev pub onItem : (ℕ → Session) → Item → Session
-onItem rest (got e next) = record { events = e ∷ (rest next).events; end = (rest next).end }
-onItem rest (over x) = record { events = []; end = x }
+abbrev pub on_item : (ℕ → Session) → Item → Session
+on_item rest (got e next) = record { events = e ∷ (rest next).events; end = (rest next).end }
+on_item rest (over x) = record { events = []; end = x }
 
 -- from a place on; the first number bounds how many records are looked at
 unfoldable pub from : ℕ → List ℕ → ℕ → Session
 from zero s at = record { events = []; end = fileEnd }
-from (suc f) s at = onItem (from f s) (item_at s at)
+from (suc f) s at = on_item (from f s) (item_at s at)
 
 -- a file has fewer records than bytes
 unfoldable pub session : List ℕ → Session

@@ -17,13 +17,13 @@ use Rattle.file_rules.specs.declared.Fault.TheVariants.{Version, Cut, Length, Ki
 use Rattle.file_rules.specs.declared.End.TheVariants.{File, Refused}
 use Rattle.file_rules.specs.declared.Item.{Item}
 use Rattle.file_rules.specs.declared.Item.TheVariants.{Got, Over}
-use Rattle.file_rules.specs.Row.{row_of, eventOfRow}
-use Rattle.file_rules.specs.Bytes.{bytes_of, fileOf, Fits, AllFit}
-use Rattle.file_rules.specs.File.{verdict, byte_at, word_at, eventAt, item_at, Session, session}
+use Rattle.file_rules.specs.Row.{row_of, event_of_row}
+use Rattle.file_rules.specs.Bytes.{bytes_of, file_of, Fits, AllFit}
+use Rattle.file_rules.specs.File.{verdict, byte_at, word_at, event_at, item_at, Session, session}
 
 -- the kinds, each with the length of its records
 pub data Known : ℕ → ℕ → Type 0 where
-  powerUp : Known 1 7
+  power_up : Known 1 7
   write : Known 2 6
   read : Known 3 2
   signal : (kind : ℕ) → 4 ≤ kind → kind ≤ 9 → Known kind 1
@@ -35,16 +35,16 @@ Whole s at = at + 2 + word_at s at ≤ length s
 -- what stands at a place from 1 on
 pub data Record (s : List ℕ) (at : ℕ) : Item → Type 0 where
   ended : length s ≤ at → Record s at (Over File)
-  halfLength : at < length s → length s < at + 2 → Record s at (Over (Refused Cut at))
-  shortBody : at + 2 ≤ length s → length s < at + 2 + word_at s at → Record s at (Over (Refused Cut at))
-  lengthZero : Whole s at → word_at s at ≡ 0 → Record s at (Over (Refused Length at))
+  half_length : at < length s → length s < at + 2 → Record s at (Over (Refused Cut at))
+  short_body : at + 2 ≤ length s → length s < at + 2 + word_at s at → Record s at (Over (Refused Cut at))
+  length_zero : Whole s at → word_at s at ≡ 0 → Record s at (Over (Refused Length at))
   unknown : Whole s at → word_at s at ≢ 0 → ((n : ℕ) → ¬ Known (byte_at s (at + 2)) n) → Record s at (Over (Refused Kind at))
-  lengthWrong : (n : ℕ) → Whole s at → word_at s at ≢ 0 → Known (byte_at s (at + 2)) n → word_at s at ≢ n → Record s at (Over (Refused Length at))
-  event : Whole s at → Known (byte_at s (at + 2)) (word_at s at) → Record s at (Got (eventAt s (at + 2)) (at + 2 + word_at s at))
+  length_wrong : (n : ℕ) → Whole s at → word_at s at ≢ 0 → Known (byte_at s (at + 2)) n → word_at s at ≢ n → Record s at (Over (Refused Length at))
+  event : Whole s at → Known (byte_at s (at + 2)) (word_at s at) → Record s at (Got (event_at s (at + 2)) (at + 2 + word_at s at))
 
 -- an empty file's first byte counts as 0 here, and so as not 01
 pub data ItemGiven (s : List ℕ) : ℕ → Item → Type 0 where
-  badVersion : byte_at s 0 ≢ 1 → ItemGiven s 0 (Over (Refused Version 0))
+  bad_version : byte_at s 0 ≢ 1 → ItemGiven s 0 (Over (Refused Version 0))
   first : byte_at s 0 ≡ 1 → (i : Item) → Record s 1 i → ItemGiven s 0 i
   later : (at : ℕ) (i : Item) → Record s (suc at) i → ItemGiven s (suc at) i
 
@@ -71,16 +71,16 @@ pub data Reached (s : List ℕ) : ℕ → Type 0 where
 -- (12), 13, 12"; and 0, "done"
 pub data FileGiven (s : List ℕ) : ℕ → ℕ → Type 0 where
   -- "session file empty or its first byte not 01"; "0 for refusal 10"
-  notOpened : byte_at s 0 ≢ 1 → FileGiven s 10 0
+  not_opened : byte_at s 0 ≢ 1 → FileGiven s 10 0
   -- "file ends inside a record": in its length, or behind it
-  inLength : (p : ℕ) → Reached s p → p < length s → length s < p + 2 → FileGiven s 11 p
+  in_length : (p : ℕ) → Reached s p → p < length s → length s < p + 2 → FileGiven s 11 p
   in_body : (p : ℕ) → Reached s p → p + 2 ≤ length s → length s < p + 2 + word_at s p → FileGiven s 11 p
   -- "record length .. 0"
-  zeroLength : (p : ℕ) → Reached s p → Whole s p → word_at s p ≡ 0 → FileGiven s 12 p
+  zero_length : (p : ℕ) → Reached s p → Whole s p → word_at s p ≡ 0 → FileGiven s 12 p
   -- "unknown record kind"
-  unknownKind : (p : ℕ) → Reached s p → Whole s p → word_at s p ≢ 0 → ((n : ℕ) → ¬ Known (byte_at s (p + 2)) n) → FileGiven s 13 p
+  unknown_kind : (p : ℕ) → Reached s p → Whole s p → word_at s p ≢ 0 → ((n : ℕ) → ¬ Known (byte_at s (p + 2)) n) → FileGiven s 13 p
   -- "record length wrong for its kind"
-  wrongLength : (p n : ℕ) → Reached s p → Whole s p → word_at s p ≢ 0 → Known (byte_at s (p + 2)) n → word_at s p ≢ n → FileGiven s 12 p
+  wrong_length : (p n : ℕ) → Reached s p → Whole s p → word_at s p ≢ 0 → Known (byte_at s (p + 2)) n → word_at s p ≢ n → FileGiven s 12 p
   done : (p : ℕ) → Reached s p → length s ≤ p → FileGiven s 0 0
 
 abbrev pub File-exactly : Type 0
@@ -91,8 +91,8 @@ File-exactly = (s : List ℕ) (n p : ℕ) → (verdict (session s).end ≡ recor
 -- 01: "1 power-up (d, range, filter, kit, firmware in two bytes) 7; 2 write (offset, value in four) 6; 3 read (offset) 2; 4 tick,
 -- 5 outside clock, 6 trigger, 7 calibration passed, 8 failed, 9 settled, 1 each": a file with a record of each kind, no two bytes of a
 -- record alike
-abbrev pub everyKind : List ℕ
-everyKind =
+abbrev pub every_kind : List ℕ
+every_kind =
     0x01
     ∷ 0x00 ∷ 0x07 ∷ 0x01 ∷ 0x0A ∷ 0x0B ∷ 0x0C ∷ 0x0D ∷ 0x0E ∷ 0x0F
     ∷ 0x00 ∷ 0x06 ∷ 0x02 ∷ 0x1C ∷ 0x89 ∷ 0xAB ∷ 0xCD ∷ 0xEF
@@ -110,7 +110,7 @@ pub record EveryKind (x : Session) : Type 0 where
   pub end : x.end ≡ File
 
 abbrev pub Every-kind : Type 0
-Every-kind = EveryKind (session everyKind)
+Every-kind = EveryKind (session every_kind)
 
 -- ---- Written and read
 
@@ -124,7 +124,7 @@ Bytes-read =
 
 -- a file that is written of events has these events, and no refusal
 abbrev pub File-read : Type 0
-File-read = (es : List Event) → AllFit es → session (fileOf es) ≡ record { events = es; end = File }
+File-read = (es : List Event) → AllFit es → session (file_of es) ≡ record { events = es; end = File }
 
 -- 01: "A file refusal stops it, and record and memory stay as the earlier records left them": a file that is refused behind the records of
 -- these events has these events
@@ -132,13 +132,13 @@ abbrev pub Refused-events : Type 0
 Refused-events =
     (es : List Event) (ys : List ℕ) (why : Fault) (p : ℕ)
     → AllFit es
-    → item_at (fileOf es ++ ys) (length (fileOf es)) ≡ Over (Refused why p)
-    → session (fileOf es ++ ys) ≡ record { events = es; end = Refused why p }
+    → item_at (file_of es ++ ys) (length (file_of es)) ≡ Over (Refused why p)
+    → session (file_of es ++ ys) ≡ record { events = es; end = Refused why p }
 
 -- and a file of bytes that is not refused is what is written of its events
 abbrev pub File-written : Type 0
-File-written = (s : List ℕ) → ((i : ℕ) → byte_at s i < 256) → (session s).end ≡ File → fileOf (session s).events ≡ s
+File-written = (s : List ℕ) → ((i : ℕ) → byte_at s i < 256) → (session s).end ≡ File → file_of (session s).events ≡ s
 
 -- the row of an event is that event's
 abbrev pub Row-read : Type 0
-Row-read = (e : Event) → eventOfRow (row_of e) ≡ e
+Row-read = (e : Event) → event_of_row (row_of e) ≡ e

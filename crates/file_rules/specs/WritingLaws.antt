@@ -13,16 +13,16 @@ use Rattle.std.proofs.Math.Seq.{slice}
 use Rattle.rules.specs.declared.Event.{Event}
 use Rattle.file_rules.specs.declared.End.TheVariants.{File}
 use Rattle.file_rules.specs.File.{byte_at, session}
-use Rattle.file_rules.specs.Row.{row_of, field, eventOfRow}
-use Rattle.file_rules.specs.Bytes.{fileOf, Fits, AllFit}
-use Rattle.file_rules.specs.Laws.{Known, everyKind}
-use Rattle.file_rules.specs.Writing.{eventsIn, rows_of, rowRefusal, writeRefusal, endPlace, outputAfter}
+use Rattle.file_rules.specs.Row.{row_of, field, event_of_row}
+use Rattle.file_rules.specs.Bytes.{file_of, Fits, AllFit}
+use Rattle.file_rules.specs.Laws.{Known, every_kind}
+use Rattle.file_rules.specs.Writing.{events_in, rows_of, row_refusal, write_refusal, end_place, output_after}
 
 -- ---- Rows
 
 pub data BadRow (r : List ℕ) : ℕ → Type 0 where
   -- 02: "13 an unknown kind"
-  unknownKind : ((k : ℕ) → ¬ Known (field r 0) k) → BadRow r 13
+  unknown_kind : ((k : ℕ) → ¬ Known (field r 0) k) → BadRow r 13
   -- 02: "30 a field too large for its bytes or not 0 where the kind has none": it is the row of no event whose fields fit
   misfit : (k : ℕ) → Known (field r 0) k → ((e : Event) → Fits e → r ≢ row_of e) → BadRow r 30
 
@@ -31,35 +31,35 @@ pub data RowGiven (r : List ℕ) : ℕ → Type 0 where
   good : (e : Event) → Fits e → r ≡ row_of e → RowGiven r 0
 
 abbrev pub Row-exactly : Type 0
-Row-exactly = (r : List ℕ) (n : ℕ) → length r ≡ 6 → (rowRefusal r ≡ n) ↔ RowGiven r n
+Row-exactly = (r : List ℕ) (n : ℕ) → length r ≡ 6 → (row_refusal r ≡ n) ↔ RowGiven r n
 
 abbrev pub Row-back : Type 0
-Row-back = (r : List ℕ) → length r ≡ 6 → rowRefusal r ≡ 0 → row_of (eventOfRow r) ≡ r
+Row-back = (r : List ℕ) → length r ≡ 6 → row_refusal r ≡ 0 → row_of (event_of_row r) ≡ r
 
 -- ---- Refusals
 
 pub data WriteGiven (xs : List ℕ) (n place : ℕ) : ℕ → Type 0 where
   -- 02: "32 a slice not of whole events, first"
-  notWhole : ((k : ℕ) → length xs ≢ 6 * k) → WriteGiven xs n place 32
+  not_whole : ((k : ℕ) → length xs ≢ 6 * k) → WriteGiven xs n place 32
   -- "the first bad event decides": all before it are good
-  badEvent : (es : List Event) (r ys : List ℕ) (k m : ℕ)
+  bad_event : (es : List Event) (r ys : List ℕ) (k m : ℕ)
       → AllFit es → length r ≡ 6 → BadRow r m → length ys ≡ 6 * k → xs ≡ rows_of es ++ (r ++ ys)
       → WriteGiven xs n place m
   -- "20 a place past the output's end"
-  pastEnd : (es : List Event) → AllFit es → xs ≡ rows_of es → n < place → WriteGiven xs n place 20
+  past_end : (es : List Event) → AllFit es → xs ≡ rows_of es → n < place → WriteGiven xs n place 20
   -- "21 when the whole session doesn't fit"
-  tooLong : (es : List Event) → AllFit es → xs ≡ rows_of es → place ≤ n → n < place + length (fileOf es) → WriteGiven xs n place 21
-  done : (es : List Event) → AllFit es → xs ≡ rows_of es → place + length (fileOf es) ≤ n → WriteGiven xs n place 0
+  too_long : (es : List Event) → AllFit es → xs ≡ rows_of es → place ≤ n → n < place + length (file_of es) → WriteGiven xs n place 21
+  done : (es : List Event) → AllFit es → xs ≡ rows_of es → place + length (file_of es) ≤ n → WriteGiven xs n place 0
 
 abbrev pub Write-exactly : Type 0
-Write-exactly = (xs : List ℕ) (n place m : ℕ) → (writeRefusal xs n place ≡ m) ↔ WriteGiven xs n place m
+Write-exactly = (xs : List ℕ) (n place m : ℕ) → (write_refusal xs n place ≡ m) ↔ WriteGiven xs n place m
 
 -- 02: "each answers place 0 and writes no byte"
 abbrev pub Write-refused : Type 0
 Write-refused =
     (xs out : List ℕ) (place : ℕ)
-    → writeRefusal xs (length out) place ≢ 0
-    → (endPlace xs (length out) place ≡ 0) × (outputAfter xs out place ≡ out)
+    → write_refusal xs (length out) place ≢ 0
+    → (end_place xs (length out) place ≡ 0) × (output_after xs out place ≡ out)
 
 -- ---- Written and read
 
@@ -74,8 +74,8 @@ pub record Reread (es : List Event) (out : List ℕ) (place end : ℕ) (o : List
 abbrev pub Write-read : Type 0
 Write-read =
     (xs out : List ℕ) (place : ℕ)
-    → writeRefusal xs (length out) place ≡ 0
-    → Reread (eventsIn xs) out place (endPlace xs (length out) place) (outputAfter xs out place)
+    → write_refusal xs (length out) place ≡ 0
+    → Reread (events_in xs) out place (end_place xs (length out) place) (output_after xs out place)
 
 -- the output o has a copy of the session s, from the place on up to the end
 pub record Copied (s : List ℕ) (place end : ℕ) (o : List ℕ) : Type 0 where
@@ -89,13 +89,13 @@ Write-back =
     → ((i : ℕ) → byte_at s i < 256)
     → (session s).end ≡ File
     → place + length s ≤ length out
-    → Copied s place (endPlace (rows_of (session s).events) (length out) place) (outputAfter (rows_of (session s).events) out place)
+    → Copied s place (end_place (rows_of (session s).events) (length out) place) (output_after (rows_of (session s).events) out place)
 
 -- ---- Examples
 
 -- the session of document 01 as rows
-abbrev pub scopeRows : List ℕ
-scopeRows =
+abbrev pub scope_rows : List ℕ
+scope_rows =
     1 ∷ 0 ∷ 1 ∷ 0 ∷ 0 ∷ 0x10
     ∷ 2 ∷ 0x04 ∷ 5 ∷ 0 ∷ 0 ∷ 0
     ∷ 2 ∷ 0x0C ∷ 0x20 ∷ 0 ∷ 0 ∷ 0
@@ -107,9 +107,9 @@ scopeRows =
 
 -- into an output of 52 bytes, from its byte 2 on: one byte is left behind it
 pub record ScopeWritten : Type 0 where
-  pub refusal : writeRefusal scopeRows 52 2 ≡ 0
-  pub end : endPlace scopeRows 52 2 ≡ 51
-  pub output : outputAfter scopeRows (replicate 52 0xEE) 2
+  pub refusal : write_refusal scope_rows 52 2 ≡ 0
+  pub end : end_place scope_rows 52 2 ≡ 51
+  pub output : output_after scope_rows (replicate 52 0xEE) 2
       ≡ 0xEE ∷ 0xEE
       ∷ 0x01
       ∷ 0x00 ∷ 0x07 ∷ 0x01 ∷ 0x00 ∷ 0x01 ∷ 0x00 ∷ 0x00 ∷ 0x00 ∷ 0x10
@@ -126,34 +126,34 @@ Scope-written = ScopeWritten
 
 -- a file with a record of each kind, written back from its events: an instance of Write-back
 abbrev pub Every-kind-back : Type 0
-Every-kind-back = outputAfter (rows_of (session everyKind).events) (replicate 42 0xEE) 1 ≡ 0xEE ∷ everyKind ++ (0xEE ∷ [])
+Every-kind-back = output_after (rows_of (session every_kind).events) (replicate 42 0xEE) 1 ≡ 0xEE ∷ every_kind ++ (0xEE ∷ [])
 
 -- rows for the refusals
-abbrev pub tickRow : List ℕ
-tickRow = 4 ∷ 0 ∷ 0 ∷ 0 ∷ 0 ∷ 0 ∷ []
+abbrev pub tick_row : List ℕ
+tick_row = 4 ∷ 0 ∷ 0 ∷ 0 ∷ 0 ∷ 0 ∷ []
 
-abbrev pub kindOf260 : List ℕ
-kindOf260 = 260 ∷ 0 ∷ 0 ∷ 0 ∷ 0 ∷ 0 ∷ []
+abbrev pub kind_of260 : List ℕ
+kind_of260 = 260 ∷ 0 ∷ 0 ∷ 0 ∷ 0 ∷ 0 ∷ []
 
-abbrev pub readOf256 : List ℕ
-readOf256 = 3 ∷ 256 ∷ 0 ∷ 0 ∷ 0 ∷ 0 ∷ []
+abbrev pub read_of256 : List ℕ
+read_of256 = 3 ∷ 256 ∷ 0 ∷ 0 ∷ 0 ∷ 0 ∷ []
 
 -- the session of one tick has four bytes
 pub record RefusalsTold : Type 0 where
-  pub done : writeRefusal tickRow 4 0 ≡ 0
-  pub no-events : writeRefusal [] 1 0 ≡ 0
-  pub long-firmware : writeRefusal (1 ∷ 16 ∷ 3 ∷ 3 ∷ 3 ∷ 65535 ∷ []) 10 0 ≡ 0
-  pub part-of-a-row : writeRefusal (tickRow ++ 4 ∷ []) 4 0 ≡ 32
-  pub part-before-all : writeRefusal (kindOf260 ++ 4 ∷ []) 0 1 ≡ 32
-  pub unknown : writeRefusal kindOf260 4 0 ≡ 13
-  pub bad-twice : writeRefusal (10 ∷ 256 ∷ 0 ∷ 0 ∷ 0 ∷ 0 ∷ []) 4 0 ≡ 13
-  pub large : writeRefusal readOf256 5 0 ≡ 30
-  pub not-zero : writeRefusal (3 ∷ 12 ∷ 1 ∷ 0 ∷ 0 ∷ 0 ∷ []) 5 0 ≡ 30
-  pub first-of-two : writeRefusal (readOf256 ++ kindOf260) 8 0 ≡ 30
-  pub bad-before-past : writeRefusal (tickRow ++ kindOf260) 4 5 ≡ 13
-  pub past : writeRefusal tickRow 4 5 ≡ 20
-  pub at-the-end : writeRefusal tickRow 4 4 ≡ 21
-  pub one-short : writeRefusal tickRow 4 1 ≡ 21
+  pub done : write_refusal tick_row 4 0 ≡ 0
+  pub no_events : write_refusal [] 1 0 ≡ 0
+  pub long_firmware : write_refusal (1 ∷ 16 ∷ 3 ∷ 3 ∷ 3 ∷ 65535 ∷ []) 10 0 ≡ 0
+  pub part_of_a_row : write_refusal (tick_row ++ 4 ∷ []) 4 0 ≡ 32
+  pub part_before_all : write_refusal (kind_of260 ++ 4 ∷ []) 0 1 ≡ 32
+  pub unknown : write_refusal kind_of260 4 0 ≡ 13
+  pub bad_twice : write_refusal (10 ∷ 256 ∷ 0 ∷ 0 ∷ 0 ∷ 0 ∷ []) 4 0 ≡ 13
+  pub large : write_refusal read_of256 5 0 ≡ 30
+  pub not_zero : write_refusal (3 ∷ 12 ∷ 1 ∷ 0 ∷ 0 ∷ 0 ∷ []) 5 0 ≡ 30
+  pub first_of_two : write_refusal (read_of256 ++ kind_of260) 8 0 ≡ 30
+  pub bad_before_past : write_refusal (tick_row ++ kind_of260) 4 5 ≡ 13
+  pub past : write_refusal tick_row 4 5 ≡ 20
+  pub at_the_end : write_refusal tick_row 4 4 ≡ 21
+  pub one_short : write_refusal tick_row 4 1 ≡ 21
 
 abbrev pub Refusals-told : Type 0
 Refusals-told = RefusalsTold

@@ -2,7 +2,7 @@
 // said in specs/.
 use rules::Event;
 
-// Why a file is refused; `faultNumber` in specs/File.antt has 01's numbers.
+// Why a file is refused; `fault_number` in specs/File.antt has 01's numbers.
 #[derive(Drop)]
 pub enum Fault {
     Version,

@@ -2,5 +2,5 @@
 use Rattle.rules.proofs.Equal.{determined}
 use Rattle.hex.specs.Unique.{Decodes-unique}
 
-pub decodes-unique : Decodes-unique
-decodes-unique text out r r' o o' p q = (determined p.answer q.answer, determined p.output q.output)
+pub decodes_unique : Decodes-unique
+decodes_unique text out r r' o o' p q = (determined p.answer q.answer, determined p.output q.output)

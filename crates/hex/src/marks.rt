@@ -1,6 +1,6 @@
 // What stands at a place of the text.
 ghost use Rattle.std.specs.Prelude.{◌<◌, ◌≡◌, length};
-ghost use Rattle.hex_rules.specs.Hex.{char_at, hexWorth, isControl, isBlank, inComment, byte_of, mark_of, markAt, openingOf};
+ghost use Rattle.hex_rules.specs.Hex.{char_at, hex_worth, is_control, is_blank, in_comment, byte_of, mark_of, mark_at, opening_of};
 
 use hex_rules::Mark;
 
@@ -15,7 +15,7 @@ fn char_at(text: &[u8], at: usize) -> u8
 }
 
 fn worth_of(c: u8) -> u8
-    ensures { result ≡ hexWorth c }
+    ensures { result ≡ hex_worth c }
 {
     if (48 <= c) & (c <= 57) {
         return c - 48;
@@ -30,19 +30,19 @@ fn worth_of(c: u8) -> u8
 }
 
 fn is_control(c: u8, next: u8) -> bool
-    ensures { result ≡ isControl c next }
+    ensures { result ≡ is_control c next }
 {
     ((c < 32) & !((c == 9) | (c == 10) | ((c == 13) & (next == 10)))) | (c == 127)
 }
 
 fn is_blank(c: u8) -> bool
-    ensures { result ≡ isBlank c }
+    ensures { result ≡ is_blank c }
 {
     (c == 32) | (c == 9) | (c == 10) | (c == 13)
 }
 
 fn in_comment(before: bool, c: u8) -> bool
-    ensures { result ≡ inComment before c }
+    ensures { result ≡ in_comment before c }
 {
     (before | (c == 35)) & !(c == 10)
 }
@@ -78,14 +78,14 @@ fn mark_of(c: u8, next: u8, comment: bool) -> Mark
 
 pub(crate) fn mark_at(text: &[u8], at: usize, comment: bool) -> Mark
     requires { at < length text.now }
-    ensures { result ≡ markAt text.now at comment }
+    ensures { result ≡ mark_at text.now at comment }
 {
     mark_of(char_at(text, at), char_at(text, at + 1), comment)
 }
 
 // A text begins behind its byte order mark, where it has one.
 pub(crate) fn opening(text: &[u8]) -> usize
-    ensures { result ≡ openingOf text.now }
+    ensures { result ≡ opening_of text.now }
 {
     if (char_at(text, 0) == 239) & (char_at(text, 1) == 187) & (char_at(text, 2) == 191) {
         return 3;

@@ -1,6 +1,6 @@
 -- Hex text: two digits a byte, blanks and new lines between bytes, and comments from `#` to the end of the line.
 --   mark_of c next x   what a character says, the next one seen; x: it stands in a comment
---   hexReading t      the bytes that a text says, up to its end or to the place at which it is no hex text
+--   hex_reading t      the bytes that a text says, up to its end or to the place at which it is no hex text
 use Rattle.std.specs.Prelude.{ℕ, zero, suc, ◌+◌, ◌*◌, ◌-◌, Bool, true, false, cond, not, ◌&&◌, ◌||◌, List, [], ◌∷◌, leb, ltb, eqb, length, get_or}
 use Prim.Native.Char.{code}
 use Rattle.basics.specs.Ascii.{nul, tab, newline, return, space}
@@ -14,23 +14,23 @@ abbrev pub char_at : List ℕ → ℕ → ℕ
 char_at t at = get_or t at nul
 
 -- "A" and "a" are 10; 16 for any other character
-unfoldable pub hexWorth : ℕ → ℕ
-hexWorth c =
+unfoldable pub hex_worth : ℕ → ℕ
+hex_worth c =
     cond (leb (code "0") c && leb c (code "9")) (c - code "0")
     (cond (leb (code "A") c && leb c (code "F")) (c - (code "A" - 10))
     (cond (leb (code "a") c && leb c (code "f")) (c - (code "a" - 10)) 16))
 
 -- Below the space, and 127: no editor shows them. A tab, a new line and a carriage return right before a new line are no such characters; a carriage return elsewhere is, since some programs end a line there.
-abbrev pub isControl : ℕ → ℕ → Bool
-isControl c next = (ltb c space && not ((eqb c tab || eqb c newline) || (eqb c return && eqb next newline))) || eqb c 127
+abbrev pub is_control : ℕ → ℕ → Bool
+is_control c next = (ltb c space && not ((eqb c tab || eqb c newline) || (eqb c return && eqb next newline))) || eqb c 127
 
 -- a space, a tab, and what ends a line
-abbrev pub isBlank : ℕ → Bool
-isBlank c = ((eqb c space || eqb c tab) || eqb c newline) || eqb c return
+abbrev pub is_blank : ℕ → Bool
+is_blank c = ((eqb c space || eqb c tab) || eqb c newline) || eqb c return
 
 -- from `#` up to the new line
-abbrev pub inComment : Bool → ℕ → Bool
-inComment before c = (before || eqb c (code "#")) && not (eqb c newline)
+abbrev pub in_comment : Bool → ℕ → Bool
+in_comment before c = (before || eqb c (code "#")) && not (eqb c newline)
 
 -- two digits, the first the more significant
 unfoldable pub byte_of : ℕ → ℕ → Mark
@@ -39,12 +39,12 @@ byte_of high low = cond (ltb 15 high) Fault (cond (ltb 15 low) Fault (Byte (16 *
 -- a control character is refused in a comment too
 unfoldable pub mark_of : ℕ → ℕ → Bool → Mark
 mark_of c next x =
-    cond (isControl c next) Fault
-    (cond (inComment x c) (Passed true)
-    (cond (isBlank c) (Passed false) (byte_of (hexWorth c) (hexWorth next))))
+    cond (is_control c next) Fault
+    (cond (in_comment x c) (Passed true)
+    (cond (is_blank c) (Passed false) (byte_of (hex_worth c) (hex_worth next))))
 
-abbrev pub markAt : List ℕ → ℕ → Bool → Mark
-markAt t at x = mark_of (char_at t at) (char_at t (at + 1)) x
+abbrev pub mark_at : List ℕ → ℕ → Bool → Mark
+mark_at t at x = mark_of (char_at t at) (char_at t (at + 1)) x
 
 -- ---- The text
 
@@ -58,20 +58,20 @@ pub record HexReading : Type 0 where
   pub stop : Stop
 
 -- `rest` is the reading from a later place on, in a comment or not
-abbrev pub onMark : (ℕ → Bool → HexReading) → ℕ → Mark → HexReading
-onMark rest at (Passed x) = rest (at + 1) x
-onMark rest at (Byte b) = record { bytes = b ∷ (rest (at + 2) false).bytes; stop = (rest (at + 2) false).stop }
-onMark rest at Fault = record { bytes = []; stop = bad at }
+abbrev pub on_mark : (ℕ → Bool → HexReading) → ℕ → Mark → HexReading
+on_mark rest at (Passed x) = rest (at + 1) x
+on_mark rest at (Byte b) = record { bytes = b ∷ (rest (at + 2) false).bytes; stop = (rest (at + 2) false).stop }
+on_mark rest at Fault = record { bytes = []; stop = bad at }
 
 -- from a place on; the first number bounds how many characters are looked at
-unfoldable pub hexFrom : ℕ → List ℕ → ℕ → Bool → HexReading
-hexFrom zero t at x = record { bytes = []; stop = whole }
-hexFrom (suc f) t at x =
-    cond (leb (length t) at) (record { bytes = []; stop = whole }) (onMark (hexFrom f t) at (markAt t at x))
+unfoldable pub hex_from : ℕ → List ℕ → ℕ → Bool → HexReading
+hex_from zero t at x = record { bytes = []; stop = whole }
+hex_from (suc f) t at x =
+    cond (leb (length t) at) (record { bytes = []; stop = whole }) (on_mark (hex_from f t) at (mark_at t at x))
 
 -- behind the byte order mark of UTF-8, EF BB BF, where the text begins with one
-unfoldable pub openingOf : List ℕ → ℕ
-openingOf t = cond ((eqb (char_at t 0) 239 && eqb (char_at t 1) 187) && eqb (char_at t 2) 191) 3 0
+unfoldable pub opening_of : List ℕ → ℕ
+opening_of t = cond ((eqb (char_at t 0) 239 && eqb (char_at t 1) 187) && eqb (char_at t 2) 191) 3 0
 
-unfoldable pub hexReading : List ℕ → HexReading
-hexReading t = hexFrom (suc (length t)) t (openingOf t) false
+unfoldable pub hex_reading : List ℕ → HexReading
+hex_reading t = hex_from (suc (length t)) t (opening_of t) false

@@ -1,7 +1,7 @@
 -- Texts, each with the bytes that it says and how it ends: the rules of Hex.antt seen one by one.
 use Rattle.std.specs.Prelude.{ℕ, ◌≡◌, List, [], ◌∷◌, ◌++◌}
 use Rattle.basics.specs.Ascii.{ascii, nul, tab, return}
-use Rattle.hex_rules.specs.Hex.{Stop, whole, bad, hexReading}
+use Rattle.hex_rules.specs.Hex.{Stop, whole, bad, hex_reading}
 
 -- ---- Rows
 
@@ -10,8 +10,8 @@ pub record HexRow : Type 0 where
   pub bytes : List ℕ
   pub stop : Stop
 
-unfoldable pub hexTable : List HexRow
-hexTable =
+unfoldable pub hex_table : List HexRow
+hex_table =
     -- nothing
     record { text = []; bytes = []; stop = whole }
     -- 9Fa0: digits in capitals and in small letters, two bytes in one word
@@ -107,7 +107,7 @@ hexTable =
 
 pub data AllRead : List HexRow → Type 0 where
   none : AllRead []
-  next : {r : HexRow} {rs : List HexRow} → hexReading r.text ≡ record { bytes = r.bytes; stop = r.stop } → AllRead rs → AllRead (r ∷ rs)
+  next : {r : HexRow} {rs : List HexRow} → hex_reading r.text ≡ record { bytes = r.bytes; stop = r.stop } → AllRead rs → AllRead (r ∷ rs)
 
 abbrev pub Table-read : Type 0
-Table-read = AllRead hexTable
+Table-read = AllRead hex_table

@@ -2,8 +2,8 @@
 // kind; and the numbers of a file's faults.
 // Every call takes every input, and tells what a rule says (`Told` of rules/specs/Told.antt).
 ghost use Rattle.rules.specs.Told.{Told};
-ghost use Rattle.file_rules.specs.Bytes.{signalKind};
-ghost use Rattle.file_rules.specs.File.{length_of, signalOf, faultNumber};
+ghost use Rattle.file_rules.specs.Bytes.{signal_kind};
+ghost use Rattle.file_rules.specs.File.{length_of, signal_of, fault_number};
 ghost use Rattle.file_rules.specs.Row.{row_of};
 
 use file_rules::Fault;
@@ -24,7 +24,7 @@ pub fn length_of(kind: u32) -> u32
 
 // 01: "4 tick, 5 outside clock, 6 trigger, 7 calibration passed, 8 failed, 9 settled"; any other kind counts as 9.
 pub fn signal_of(kind: u32) -> Signal
-    ensures { Told (signalOf kind) result }
+    ensures { Told (signal_of kind) result }
 {
     match kind {
         4 => Signal::Tick,
@@ -38,7 +38,7 @@ pub fn signal_of(kind: u32) -> Signal
 
 // And back: the kind of a signal.
 pub fn kind_of(s: Signal) -> u32
-    ensures { Told (signalKind s) result }
+    ensures { Told (signal_kind s) result }
 {
     match s {
         Signal::Tick => 4,
@@ -64,7 +64,7 @@ pub fn row_of(e: Event) -> [u32; 6]
 
 // 01's number of what is wrong with a file.
 pub fn fault_number(why: Fault) -> u32
-    ensures { Told (faultNumber why) result }
+    ensures { Told (fault_number why) result }
 {
     match why {
         Fault::Version => 10,

@@ -8,11 +8,11 @@ use Rattle.rules.specs.declared.Board.{Board}
 use Rattle.rules.specs.Interrupt.{conditions}
 
 -- a number from j on that is not j is from j + 1 on
-pub le-ne-suc : (j k : ℕ) → j ≤ k → (k ≡ j → ⊥) → suc j ≤ k
-le-ne-suc j k h d = omega arith
+pub le_ne_suc : (j k : ℕ) → j ≤ k → (k ≡ j → ⊥) → suc j ≤ k
+le_ne_suc j k h d = omega arith
 
 -- 0 is "Idle", and the list ends at 7
-pub conditions-none : (b : Board) (k : ℕ) → (1 ≤ k → 8 ≤ k) → get_or (conditions b) k false ≡ false
+pub conditions_none : (b : Board) (k : ℕ) → (1 ≤ k → 8 ≤ k) → get_or (conditions b) k false ≡ false
 unfolding conditions
-conditions-none b zero h = refl
-conditions-none b (suc k) h = get_or-eq_default (conditions b) false (h (omega arith))
+conditions_none b zero h = refl
+conditions_none b (suc k) h = get_or-eq_default (conditions b) false (h (omega arith))

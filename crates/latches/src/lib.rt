@@ -1,10 +1,10 @@
 // What an event leaves of the size code and of the interrupt request, and the condition that is selected. Every call takes every input,
 // and tells what a rule says (`Told` of rules/specs/Told.antt); a fitted code above 15, as no sound record has, counts as 15 (`capped` of
 // record/specs/Capped.antt).
-ghost use Rattle.rules.specs.Size.{sizeAfter};
-ghost use Rattle.rules.specs.Interrupt.{condition, requestHeld, requestAfter};
+ghost use Rattle.rules.specs.Size.{size_after};
+ghost use Rattle.rules.specs.Interrupt.{condition, request_held, request_after};
 ghost use Rattle.rules.specs.Told.{Told};
-ghost use Rattle.record.specs.Capped.{cappedBoard};
+ghost use Rattle.record.specs.Capped.{capped_board};
 
 use crate::latched::{code_of, edge};
 use rules::{Board, Event, Size};
@@ -15,7 +15,7 @@ mod latched;
 // 01: "conditions 1 calibrated, 2 empty, 3 low quarter, 4 high quarter, 5 burst ready, 6 load ready, 7 not load ready": the one that is
 // selected.
 pub fn condition(b: Board) -> bool
-    ensures { Told (condition (cappedBoard b)) result }
+    ensures { Told (condition (capped_board b)) result }
 {
     let c = b.core;
     let n = b.ring.count;
@@ -35,7 +35,7 @@ pub fn condition(b: Board) -> bool
 
 // 01: BOR "store D0 to D5": D0 to D3 are the size code; initialise sets it to 15.
 pub fn size_after(s: Size, e: Event) -> Size
-    ensures { Told (sizeAfter s e) result }
+    ensures { Told (size_after s e) result }
 {
     match e {
         Event::PowerUp(x) => Size {
@@ -53,7 +53,7 @@ pub fn size_after(s: Size, e: Event) -> Size
 
 // 01 of a BCR write: "D11 = 0 clears the request, 1 leaves it"
 pub fn request_held(q: bool, e: Event) -> bool
-    ensures { Told (requestHeld q e) result }
+    ensures { Told (request_held q e) result }
 {
     match e {
         Event::PowerUp(_) => q,
@@ -66,7 +66,7 @@ pub fn request_held(q: bool, e: Event) -> bool
 // The request after an event, from the board before it and the one after all but the edge. 01: "If an event leaves the selection
 // unchanged, false to true sets the request after all else; true to false clears it .. Initialise just sets it."
 pub fn request_after(e: Event, b: Board, a: Board) -> bool
-    ensures { Told (requestAfter e (cappedBoard b) (cappedBoard a)) result }
+    ensures { Told (request_after e (capped_board b) (capped_board a)) result }
 {
     if initialises(e) {
         return true;

@@ -10,7 +10,7 @@ use borrow.Author.Tests.{eq-eqb}
 use lib.Dec.{eqb}
 use lib.Pow.{pow_pos, shr_lt}
 use Rattle.rules.specs.Bits.{bit}
-use Rattle.rules.proofs.Masks.{bit_below, bit-even, bit-suc}
+use Rattle.rules.proofs.Masks.{bit_below, bit_even, bit_suc}
 
 -- ---- The highest bit
 
@@ -21,8 +21,8 @@ top_bit n v h l =
     let p : 1 ≤ v / 2 ^ n = (le-div_iff_mul-le (pow_pos n)).1 (rw one-mul l) in
     eq-eqb (v / 2 ^ n % 2) 1 (omega arith)
 
-pub bit-least : (n v : ℕ) → bit n v ≡ true → 2 ^ n ≤ v
-bit-least n v t = go (dec_lt v (2 ^ n))
+pub bit_least : (n v : ℕ) → bit n v ≡ true → 2 ^ n ≤ v
+bit_least n v t = go (dec_lt v (2 ^ n))
   where
     go : Dec (v < 2 ^ n) → 2 ^ n ≤ v
     go (yes l) = absurd (true≢false (sym t ∙ bit_below n n v l (le_refl n)))
@@ -30,20 +30,20 @@ bit-least n v t = go (dec_lt v (2 ^ n))
 
 -- ---- A bit that is added to a number without it: it is set, and the others stay
 
-half-added : (n v : ℕ) → (v + 2 ^ suc n) / 2 ≡ v / 2 + 2 ^ n
-half-added n v = omega arith
+half_added : (n v : ℕ) → (v + 2 ^ suc n) / 2 ≡ v / 2 + 2 ^ n
+half_added n v = omega arith
 
 pub bit_added : (n v : ℕ) → bit n v ≡ false → bit n (v + 2 ^ n) ≡ true
-bit_added zero v z = rw div-one (eq-eqb ((v + 1) % 2) 1 (omega (arith, bit-even v z)))
-bit_added (suc n) v z = bit-suc n _ ∙ ap (bit n) (half-added n v) ∙ bit_added n (v / 2) (sym (bit-suc n v) ∙ z)
+bit_added zero v z = rw div-one (eq-eqb ((v + 1) % 2) 1 (omega (arith, bit_even v z)))
+bit_added (suc n) v z = bit_suc n _ ∙ ap (bit n) (half_added n v) ∙ bit_added n (v / 2) (sym (bit_suc n v) ∙ z)
 
-pub bit-others : (n k v : ℕ) → bit n v ≡ false → k ≢ n → bit k (v + 2 ^ n) ≡ bit k v
-bit-others zero zero v z d = absurd (d refl)
-bit-others zero (suc k) v z d =
-    let e : (v + 1) / 2 ≡ v / 2 = omega (arith, bit-even v z) in
-    bit-suc k _ ∙ ap (bit k) e ∙ sym (bit-suc k v)
-bit-others (suc n) zero v z d =
+pub bit_others : (n k v : ℕ) → bit n v ≡ false → k ≢ n → bit k (v + 2 ^ n) ≡ bit k v
+bit_others zero zero v z d = absurd (d refl)
+bit_others zero (suc k) v z d =
+    let e : (v + 1) / 2 ≡ v / 2 = omega (arith, bit_even v z) in
+    bit_suc k _ ∙ ap (bit k) e ∙ sym (bit_suc k v)
+bit_others (suc n) zero v z d =
     let e : (v + 2 ^ suc n) % 2 ≡ v % 2 = omega arith in
     simp div-one (ap (λ (x : ℕ). eqb x 1) e)
-bit-others (suc n) (suc k) v z d =
-    bit-suc k _ ∙ ap (bit k) (half-added n v) ∙ bit-others n k (v / 2) (sym (bit-suc n v) ∙ z) (λ e. d (ap suc e)) ∙ sym (bit-suc k v)
+bit_others (suc n) (suc k) v z d =
+    bit_suc k _ ∙ ap (bit k) (half_added n v) ∙ bit_others n k (v / 2) (sym (bit_suc n v) ∙ z) (λ e. d (ap suc e)) ∙ sym (bit_suc k v)

@@ -2,7 +2,7 @@
 use Rattle.std.specs.Prelude.{ℕ, ◌≤◌, ◌<◌, ◌≡◌, true, false, List, length, get_or, take}
 use Rattle.laws.specs.Types.{Signal, signal}
 use Rattle.rules.specs.Record.{State, stored}
-use Rattle.rules.specs.Parts.{noBurst, noLoad}
+use Rattle.rules.specs.Parts.{no_burst, no_load}
 use Rattle.rules.specs.Refusals.{refusal}
 use Rattle.rules.specs.Step.{Outcome, step}
 use Rattle.laws.specs.Moved.{Clocked, ReadyToMove}
@@ -16,9 +16,9 @@ pub record AnyEof (vs : List ℕ) : Type 0 where
 -- 01: "Then, if any carried EOF, once: a burst ends; opened becomes closed; else pending becomes opened."
 pub record FrameEnd (s : State) (o : Outcome) : Type 0 where
   -- "a burst ends"
-  pub burst : AnyEof (take o.answer.moved (stored s)) → o.state.board.core.burst ≡ noBurst
+  pub burst : AnyEof (take o.answer.moved (stored s)) → o.state.board.core.burst ≡ no_burst
   -- "opened becomes closed"
-  pub closes : AnyEof (take o.answer.moved (stored s)) → s.board.core.load.opened ≡ true → o.state.board.core.load ≡ noLoad
+  pub closes : AnyEof (take o.answer.moved (stored s)) → s.board.core.load.opened ≡ true → o.state.board.core.load ≡ no_load
   -- "else pending becomes opened"
   pub opens : AnyEof (take o.answer.moved (stored s))
       → s.board.core.load.opened ≡ false
@@ -27,7 +27,7 @@ pub record FrameEnd (s : State) (o : Outcome) : Type 0 where
   pub unasked : AnyEof (take o.answer.moved (stored s))
       → s.board.core.load.opened ≡ false
       → s.board.core.load.pending ≡ false
-      → o.state.board.core.load ≡ noLoad
+      → o.state.board.core.load ≡ no_load
   -- and nothing without one
   pub within : ¬ AnyEof (take o.answer.moved (stored s))
       → (o.state.board.core.burst ≡ s.board.core.burst) × (o.state.board.core.load ≡ s.board.core.load)

@@ -1,6 +1,6 @@
 -- Soundness lasts.
 use Rattle.std.specs.Prelude.{◌≡◌}
-use Rattle.laws.specs.Types.{Settings, Event, powerUp}
+use Rattle.laws.specs.Types.{Settings, Event, power_up}
 use Rattle.rules.specs.Record.{State}
 use Rattle.rules.specs.Step.{step}
 use Rattle.rules.specs.Laws.Soundness.{Stands}
@@ -16,5 +16,5 @@ Stands-kept =
 abbrev pub Stands-given : Type 0
 Stands-given =
     (s : State) (x : Settings)
-    → (step s (powerUp x)).answer.refusal ≡ 0
-    → Stands (step s (powerUp x)).state
+    → (step s (power_up x)).answer.refusal ≡ 0
+    → Stands (step s (power_up x)).state

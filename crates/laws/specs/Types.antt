@@ -4,7 +4,7 @@ pub use Rattle.rules.specs.declared.Signal.{Signal}
 pub use Rattle.rules.specs.declared.Signal.TheVariants.{Tick as tick, Outside as outside, Trigger as trigger}
 pub use Rattle.rules.specs.declared.Signal.TheVariants.{Passed as passed, Failed as failed, Settled as settled}
 pub use Rattle.rules.specs.declared.Event.{Event}
-pub use Rattle.rules.specs.declared.Event.TheVariants.{PowerUp as powerUp, Write as write, Read as read, Signal as signal}
+pub use Rattle.rules.specs.declared.Event.TheVariants.{PowerUp as power_up, Write as write, Read as read, Signal as signal}
 pub use Rattle.rules.specs.declared.Answer.{Answer}
 pub use Rattle.rules.specs.declared.Figures.{Figures}
 pub use Rattle.rules.specs.declared.Options.{Options}

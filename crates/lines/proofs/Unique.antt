@@ -2,5 +2,5 @@
 use Rattle.rules.proofs.Equal.{determined}
 use Rattle.lines.specs.Unique.{Printed-unique}
 
-pub printed-unique : Printed-unique
-printed-unique n out at text r r' o o' p q = (determined p.place q.place, determined p.output q.output)
+pub printed_unique : Printed-unique
+printed_unique n out at text r r' o o' p q = (determined p.place q.place, determined p.output q.output)

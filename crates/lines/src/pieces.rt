@@ -1,6 +1,6 @@
 // Pieces of a line: bytes, texts and numbers, each written from a place on; the answer is the place after it.
 ghost use Rattle.std.specs.Prelude.{◌+◌, ◌/◌, ◌%◌, ◌<◌, ◌≤◌, ◌≡◌, [], ◌∷◌, length};
-ghost use Rattle.listing_rules.specs.Text.{digit, capital, hex, decimalIn, decimal};
+ghost use Rattle.listing_rules.specs.Text.{digit, capital, hex, decimal_in, decimal};
 ghost use Rattle.file_rules.specs.Pieces.{Piece};
 
 pub(crate) fn put_byte(out: &mut [u8], at: usize, b: u8) -> usize
@@ -97,7 +97,7 @@ pub(crate) fn put_four_digits(out: &mut [u8], at: usize, n: u32) -> usize
 // A number of at most two digits.
 pub(crate) fn put_tens(out: &mut [u8], at: usize, n: u32) -> usize
     requires { (at + 2 ≤ length out.old) × (n < 100) }
-    ensures { Piece out.old at (decimalIn 1 n) out.new result }
+    ensures { Piece out.old at (decimal_in 1 n) out.new result }
 {
     if n < 10 {
         return put_digit(out, at, n);
@@ -108,7 +108,7 @@ pub(crate) fn put_tens(out: &mut [u8], at: usize, n: u32) -> usize
 // A number of at most four digits.
 pub(crate) fn put_small(out: &mut [u8], at: usize, n: u32) -> usize
     requires { (at + 4 ≤ length out.old) × (n < 10000) }
-    ensures { Piece out.old at (decimalIn 3 n) out.new result }
+    ensures { Piece out.old at (decimal_in 3 n) out.new result }
 {
     if n < 100 {
         return put_tens(out, at, n);
@@ -121,7 +121,7 @@ pub(crate) fn put_small(out: &mut [u8], at: usize, n: u32) -> usize
 // A number of at most six digits.
 pub(crate) fn put_middle(out: &mut [u8], at: usize, n: u32) -> usize
     requires { (at + 6 ≤ length out.old) × (n < 1000000) }
-    ensures { Piece out.old at (decimalIn 5 n) out.new result }
+    ensures { Piece out.old at (decimal_in 5 n) out.new result }
 {
     if n < 10000 {
         return put_small(out, at, n);

@@ -1,7 +1,7 @@
 // Whole lines, where there is room for them.
 ghost use Rattle.std.specs.Prelude.{◌+◌, ◌≤◌, ◌≡◌, ◌∷◌, leb, length};
 ghost use Rattle.basics.specs.Ascii.{space};
-ghost use Rattle.listing_rules.specs.Text.{decimal, line, levelsLine, fileLine, tail};
+ghost use Rattle.listing_rules.specs.Text.{decimal, line, levels_line, file_line, tail};
 ghost use Rattle.file_rules.specs.Pieces.{Piece};
 ghost use Rattle.lines.specs.Pieces.{rest};
 
@@ -69,7 +69,7 @@ pub(crate) fn write_done(
 // 01: "levels in four, channel 00 first"
 pub(crate) fn write_levels(out: &mut [u8], at: usize, levels: [u16; 20]) -> usize
     requires { at + 107 ≤ length out.old }
-    ensures { Piece out.old at (levelsLine levels) out.new result }
+    ensures { Piece out.old at (levels_line levels) out.new result }
 {
     let mut p = put_bytes(out, at, b"LEVELS");
     let mut k: usize = 0;
@@ -85,7 +85,7 @@ pub(crate) fn write_levels(out: &mut [u8], at: usize, levels: [u16; 20]) -> usiz
 // 01: "A file refusal prints `FILE n p`"
 pub(crate) fn write_file(out: &mut [u8], at: usize, n: u32, p: u32) -> usize
     requires { at + 27 ≤ length out.old }
-    ensures { Piece out.old at (fileLine n p) out.new result }
+    ensures { Piece out.old at (file_line n p) out.new result }
 {
     let a = put_bytes(out, at, b"FILE ");
     let b = put_decimal(out, a, n);

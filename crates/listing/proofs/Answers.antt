@@ -8,51 +8,51 @@ use borrow.Author.Tests.{lt-ltb, le-ltb}
 use lib.ListN.{length}
 use Rattle.rules.specs.Record.{start}
 use Rattle.rules.specs.Session.{after}
-use Rattle.rules.proofs.Choice.{cond-true, cond-false}
+use Rattle.rules.proofs.Choice.{cond_true, cond_false}
 use Rattle.listing.specs.declared.Listed.TheVariants.{Text, Short}
 use Rattle.file_rules.specs.File.{session}
-use Rattle.listing_rules.specs.Text.{tooLong}
+use Rattle.listing_rules.specs.Text.{too_long}
 use Rattle.file_rules.specs.Pieces.{Piece}
-use Rattle.listing_rules.specs.Listing.{longest, listing, text, memoryAfter, room}
+use Rattle.listing_rules.specs.Listing.{longest, listing, text, memory_after, room}
 use Rattle.listing.specs.Promises.{Lists}
 
 module _ (s m out : List ℕ) where
   pub too_short : (n : ℕ) → n ≡ room (length s) → length out < n → Lists s m out (Short n) m out
   too_short n e h =
       let l = lt-ltb (length out) (room (length s)) (omega (arith, e)) in
-      record { answer = ap Short e ∙ sym (cond-true _ _ _ l); memory = sym (cond-true _ _ _ l); output = sym (cond-true _ _ _ l) }
+      record { answer = ap Short e ∙ sym (cond_true _ _ _ l); memory = sym (cond_true _ _ _ l); output = sym (cond_true _ _ _ l) }
 
-  written : (r : ℕ) (m' out' : List ℕ) → room (length s) ≤ length out → m' ≡ memoryAfter s m → Piece out 0 (text s m) out' r → Lists s m out (Text r) m' out'
+  written : (r : ℕ) (m' out' : List ℕ) → room (length s) ≤ length out → m' ≡ memory_after s m → Piece out 0 (text s m) out' r → Lists s m out (Text r) m' out'
   written r m' out' h e w =
       let l = le-ltb _ _ h in
       record {
-        answer = ap Text (w.place ∙ zero-add (length (text s m))) ∙ sym (cond-false _ _ _ l);
-        memory = e ∙ sym (cond-false _ _ _ l);
-        output = w.text ∙ sym (cond-false _ _ _ l);
+        answer = ap Text (w.place ∙ zero-add (length (text s m))) ∙ sym (cond_false _ _ _ l);
+        memory = e ∙ sym (cond_false _ _ _ l);
+        output = w.text ∙ sym (cond_false _ _ _ l);
       }
 
   -- ---- A file that is too long
 
-  pub room-long : longest < length s → 9 ≡ room (length s)
+  pub room_long : longest < length s → 9 ≡ room (length s)
   unfolding room
-  room-long h = sym (cond-true _ _ _ (lt-ltb _ _ h))
+  room_long h = sym (cond_true _ _ _ (lt-ltb _ _ h))
 
-  pub long-written : (r : ℕ) (out' : List ℕ) → longest < length s → 9 ≤ length out → Piece out 0 tooLong out' r → Lists s m out (Text r) m out'
-  unfolding text memoryAfter
-  long-written r out' h l w =
+  pub long_written : (r : ℕ) (out' : List ℕ) → longest < length s → 9 ≤ length out → Piece out 0 too_long out' r → Lists s m out (Text r) m out'
+  unfolding text memory_after
+  long_written r out' h l w =
       let t = lt-ltb _ _ h in
-      written r m out' (omega (arith, room-long h)) (sym (cond-true _ _ _ t)) (subst (λ (x : List ℕ). Piece out 0 x out' r) (sym (cond-true _ _ _ t)) w)
+      written r m out' (omega (arith, room_long h)) (sym (cond_true _ _ _ t)) (subst (λ (x : List ℕ). Piece out 0 x out' r) (sym (cond_true _ _ _ t)) w)
 
   -- ---- Any other
 
-  pub room-file : length s ≤ longest → 160 + 22 * length s ≡ room (length s)
+  pub room_file : length s ≤ longest → 160 + 22 * length s ≡ room (length s)
   unfolding room
-  room-file h = sym (cond-false _ _ _ (le-ltb _ _ h))
+  room_file h = sym (cond_false _ _ _ (le-ltb _ _ h))
 
-  pub file-written : (r : ℕ) (m' out' : List ℕ) → length s ≤ longest → 160 + 22 * length s ≤ length out
+  pub file_written : (r : ℕ) (m' out' : List ℕ) → length s ≤ longest → 160 + 22 * length s ≤ length out
       → Piece out 0 (listing s m) out' r × (m' ≡ (after (start m) (session s).events).memory) → Lists s m out (Text r) m' out'
-  unfolding text memoryAfter
-  file-written r m' out' h l w =
+  unfolding text memory_after
+  file_written r m' out' h l w =
       let f = le-ltb _ _ h in
-      written r m' out' (omega (arith, room-file h)) (w.1 ∙ sym (cond-false _ _ _ f))
-      (subst (λ (x : List ℕ). Piece out 0 x out' r) (sym (cond-false _ _ _ f)) w.0)
+      written r m' out' (omega (arith, room_file h)) (w.1 ∙ sym (cond_false _ _ _ f))
+      (subst (λ (x : List ℕ). Piece out 0 x out' r) (sym (cond_false _ _ _ f)) w.0)

@@ -14,18 +14,18 @@ use Rattle.file_rules.specs.declared.Item.TheVariants.{Over}
 use Rattle.file_rules.specs.File.{Session, verdict}
 use Rattle.file_rules.proofs.Sessions.{PlaceInFile}
 use Rattle.listing_rules.specs.Text.{line}
-use Rattle.listing_rules.specs.Listing.{lines, levelsOf, ending, body}
+use Rattle.listing_rules.specs.Listing.{lines, levels_of, ending, body}
 
 module _ (k : ℕ) (st : State) where
-  pub body-event : (e : Event) (y : Session)
+  pub body_event : (e : Event) (y : Session)
       → body k st (record { events = e ∷ y.events; end = y.end })
       ≡ line k (step st e).answer (step st e).state.board.ring.count ++ body (k + 1) (step st e).state y
   unfolding lines outcomes after
-  body-event e y =
+  body_event e y =
       append_assoc (line k (step st e).answer (step st e).state.board.ring.count) (lines (k + 1) (outcomes (step st e).state y.events))
-      (ending y.end (levelsOf (after (step st e).state y.events)))
+      (ending y.end (levels_of (after (step st e).state y.events)))
 
-  pub body_end : (z : End) → body k st (record { events = []; end = z }) ≡ ending z (levelsOf st)
+  pub body_end : (z : End) → body k st (record { events = []; end = z }) ≡ ending z (levels_of st)
   unfolding lines outcomes after
   body_end z = refl
 

@@ -10,20 +10,20 @@ use Rattle.listing.specs.declared.Listed.TheVariants.{Text, Short}
 use Rattle.listing_rules.specs.Listing.{text, room}
 use Rattle.listing.specs.Promises.{Lists, ListCalled}
 
-unfoldable pub bytesListed : Listed → ℕ
-bytesListed (Text n) = n
-bytesListed (Short n) = 0
+unfoldable pub bytes_listed : Listed → ℕ
+bytes_listed (Text n) = n
+bytes_listed (Short n) = 0
 
-bytes-cond : (t : Bool) (k n : ℕ) → bytesListed (cond t (Short k) (Text n)) ≡ cond t 0 n
-unfolding bytesListed
-bytes-cond true k n = refl
-bytes-cond false k n = refl
+bytes_cond : (t : Bool) (k n : ℕ) → bytes_listed (cond t (Short k) (Text n)) ≡ cond t 0 n
+unfolding bytes_listed
+bytes_cond true k n = refl
+bytes_cond false k n = refl
 
-pub list-called : (s m out : List ℕ) (r : Listed) (n : ℕ) (m' out' : List ℕ)
-    → Lists s m out r m' out' → bytesListed r ≡ n → ListCalled s m out n m' out'
-list-called s m out r n m' out' x e =
+pub list_called : (s m out : List ℕ) (r : Listed) (n : ℕ) (m' out' : List ℕ)
+    → Lists s m out r m' out' → bytes_listed r ≡ n → ListCalled s m out n m' out'
+list_called s m out r n m' out' x e =
     record {
-      answer = sym e ∙ ap bytesListed x.answer ∙ bytes-cond (ltb (length out) (room (length s))) (room (length s)) (length (text s m));
+      answer = sym e ∙ ap bytes_listed x.answer ∙ bytes_cond (ltb (length out) (room (length s))) (room (length s)) (length (text s m));
       memory = x.memory;
       output = x.output;
     }

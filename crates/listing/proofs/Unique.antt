@@ -2,10 +2,10 @@
 use Rattle.rules.proofs.Equal.{determined}
 use Rattle.listing.specs.Unique.{Lists-unique, ListCalled-unique}
 
-pub lists-unique : Lists-unique
-lists-unique s m out r r' n n' o o' p q =
+pub lists_unique : Lists-unique
+lists_unique s m out r r' n n' o o' p q =
     (determined p.answer q.answer, determined p.memory q.memory, determined p.output q.output)
 
-pub list-called-unique : ListCalled-unique
-list-called-unique s m out r r' n n' o o' p q =
+pub list_called_unique : ListCalled-unique
+list_called_unique s m out r r' n n' o o' p q =
     (determined p.answer q.answer, determined p.memory q.memory, determined p.output q.output)

@@ -13,23 +13,23 @@ use Rattle.rules.specs.Step.{step}
 use Rattle.rules.specs.Session.{after}
 use Rattle.file_rules.specs.declared.End.{End}
 use Rattle.file_rules.specs.File.{session}
-use Rattle.file_rules.proofs.Given.{item-grows}
+use Rattle.file_rules.proofs.Given.{item_grows}
 use Rattle.board.specs.declared.Reply.{Reply}
 use Rattle.board.specs.Promises.{Stepped}
 use Rattle.listing_rules.specs.Text.{line}
-use Rattle.listing_rules.proofs.Lengths.{line-length}
+use Rattle.listing_rules.proofs.Lengths.{line_length}
 use Rattle.run.specs.declared.Cursor.{Cursor}
 use Rattle.run.specs.declared.Ahead.TheVariants.{Found, Over}
 use Rattle.run.specs.Run.{found}
 use Rattle.run.specs.Way.{Passes}
-use Rattle.run.proofs.Ways.{event-stood, way-start, way_on, way-over}
+use Rattle.run.proofs.Ways.{event_stood, way_start, way_on, way_over}
 use Rattle.file_rules.specs.Pieces.{Piece}
-use Rattle.file_rules.proofs.Joined.{then, piece-length}
-use Rattle.listing_rules.specs.Listing.{levelsOf, ending}
+use Rattle.file_rules.proofs.Joined.{then, piece_length}
+use Rattle.listing_rules.specs.Listing.{levels_of, ending}
 use Rattle.listing.specs.Shortcuts.{InRun}
 use Rattle.listing.specs.Draft.{Draft, draft, Page, Fills, Fair, Walked}
-use Rattle.listing.proofs.Body.{body-event, body_end}
-use Rattle.listing.proofs.AtOnce.{in-run-step}
+use Rattle.listing.proofs.Body.{body_event, body_end}
+use Rattle.listing.proofs.AtOnce.{in_run_step}
 
 pub walked_start : (s : List ℕ) (c : Cursor) (k : Draft) → Fair s c k → Walked s c k c k
 walked_start s c k f = record { fair = f; way = λ start w. w; nearer = le_refl _ }
@@ -40,11 +40,11 @@ walked_then s c k c1 k1 c2 k2 p q =
     record { fair = q.fair; way = λ start w. q.way start (p.way start w); nearer = omega (arith, p.nearer, q.nearer) }
 
 module _ (s : List ℕ) (c : Cursor) (b : Board) (m out : List ℕ) (at number : ℕ) (f : Fair s c (draft b m out at number)) where
-  pub tail-room : at + 134 ≤ length out
-  tail-room = omega (arith, f.room)
+  pub tail_room : at + 134 ≤ length out
+  tail_room = omega (arith, f.room)
 
-  pub line-room : at + 64 ≤ length out
-  line-room = omega (arith, f.room)
+  pub line_room : at + 64 ≤ length out
+  line_room = omega (arith, f.room)
 
   pub number_small : length s ≤ 65536 → number ≤ 65537
   number_small h = omega (arith, f.numbered, f.within)
@@ -61,27 +61,27 @@ module _ (s : List ℕ) (c : Cursor) (b : Board) (m out : List ℕ) (at number :
         let told : Piece out at (line number (step (state_of b m) e).answer (step (state_of b m) e).state.board.ring.count) out' at' =
         subst (λ (l : List ℕ). Piece out at l out' at') (λ i. line number (p.answer i) (p.board i).ring.count) w in
         subst (λ (st : State). Fills o (record { out = out'; at = at'; number = number + 1; state = st }) x → Fills o (draft b m out at number) (record { events = e ∷ x.events; end = x.end })) left
-        (λ v. record { text = rw (body-event number (state_of b m) e x) (then told v.text); memory = v.memory }) g
+        (λ v. record { text = rw (body_event number (state_of b m) e x) (then told v.text); memory = v.memory }) g
 
     pub walked_on : Walked s c (draft b m out at number) after (draft r.board m' out' at' (number + 1))
     walked_on =
-        let grows = item-grows s c.place e after.place (event-stood s c after e h) in
+        let grows = item_grows s c.place e after.place (event_stood s c after e h) in
         record {
           fair = record {
             within = grows.1;
             numbered = omega (arith, f.numbered, grows.0);
-            room = omega (arith, f.room, grows.0, grows.1, piece-length w, w.place, line-length number r.answer r.board.ring.count);
-            sound = subst InRun left (in-run-step (state_of b m) e f.sound);
+            room = omega (arith, f.room, grows.0, grows.1, piece_length w, w.place, line_length number r.answer r.board.ring.count);
+            sound = subst InRun left (in_run_step (state_of b m) e f.sound);
           };
           way = λ start v. way_on Page Draft Fills s start (draft b m out at number) (draft r.board m' out' at' (number + 1)) c after e v h written;
           nearer = omega (arith, grows.0, grows.1);
         }
 
 -- the whole file, from its start
-pub walked-over : (s : List ℕ) (start : Draft) (c : Cursor) (k : Draft) (z : End) (out' : List ℕ) (at' : ℕ)
-    → Walked s (record { place = 0 }) start c k → found s c ≡ Over z → Piece k.out k.at (ending z (levelsOf k.state)) out' at'
+pub walked_over : (s : List ℕ) (start : Draft) (c : Cursor) (k : Draft) (z : End) (out' : List ℕ) (at' : ℕ)
+    → Walked s (record { place = 0 }) start c k → found s c ≡ Over z → Piece k.out k.at (ending z (levels_of k.state)) out' at'
     → Fills (record { out = out'; at = at'; memory = k.state.memory }) start (session s)
 unfolding after
-walked-over s start c k z out' at' p h w =
-    way-over Page Draft Fills s start k c z _ (p.way start (way-start Page Draft Fills s start)) h
+walked_over s start c k z out' at' p h w =
+    way_over Page Draft Fills s start k c z _ (p.way start (way_start Page Draft Fills s start)) h
     (record { text = rw (body_end k.number k.state z) w; memory = refl })

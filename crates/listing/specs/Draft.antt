@@ -21,7 +21,7 @@ use Rattle.file_rules.specs.Pieces.{Piece}
 use Rattle.listing.specs.declared.hurry.Hastened.{Hastened}
 use Rattle.listing.specs.declared.hurry.Hurried.{Hurried}
 use Rattle.listing_rules.specs.Listing.{body}
-use Rattle.listing.specs.Shortcuts.{boardAs, boardWith, replyOf, InRun}
+use Rattle.listing.specs.Shortcuts.{board_as, board_with, reply_of, InRun}
 
 -- the output so far and the place in it, the number of the next line, the board and its memory
 pub record Draft : Type 0 where
@@ -58,14 +58,14 @@ pub record Walked (s : List ℕ) (c : Cursor) (k : Draft) (c' : Cursor) (k' : Dr
 -- ---- What is done at once
 
 -- the board of its parts and these levels
-abbrev pub boardNow : Board → Core → List ℕ → Ring → Board
-boardNow rest core levels ring = boardWith (boardAs rest core ring) levels
+abbrev pub board_now : Board → Core → List ℕ → Ring → Board
+board_now rest core levels ring = board_with (board_as rest core ring) levels
 
 -- the event ahead is done as `step` would do it, and its line is written
 pub record Hastens (rest : Board) (core : Core) (ring : Ring) (n : Ahead) (at number : ℕ) (levels m out : List ℕ) (r : Hastened) (levels' m' out' : List ℕ) : Type 0 where
   pub event : Event
   pub stands : n ≡ Found event r.after
-  pub stepped : Stepped (boardNow rest core levels ring) m event (replyOf (boardAs rest core ring) r.change levels') m'
+  pub stepped : Stepped (board_now rest core levels ring) m event (reply_of (board_as rest core ring) r.change levels') m'
   pub written : Piece out at (line number (record { refusal = 0; register = 0; moved = r.change.moved; fate = r.change.fate }) r.change.ring.count) out' r.at
 
 -- what `hurry` leaves: the events as far as a cursor are done, and what stands there is told

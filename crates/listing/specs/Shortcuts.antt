@@ -1,12 +1,12 @@
 -- Events that the loop over a session does at once, and what of the board they change. For the code.
---   commonEvent k v   the event that `Common` tells, by its kind and its value
---   commonOf n        what stands ahead, as `Common` tells it
+--   common_event k v   the event that `Common` tells, by its kind and its value
+--   common_of n        what stands ahead, as `Common` tells it
 --   takes b d         the board b, of d values, stores the next load, and that changes its ring alone
 --   ticks c           a tick is accepted
 --   quick b d k       the event of the kind k can be done at once
---   boardAs b c r     the board b with the core c and the ring r
---   boardWith b ls    the board b with the levels ls
---   boardOf b r ls    the board b with what is new in r, and the levels ls
+--   board_as b c r     the board b with the core c and the ring r
+--   board_with b ls    the board b with the levels ls
+--   board_of b r ls    the board b with what is new in r, and the levels ls
 --   InRun s           the states of a run: not powered, or sound over enough memory
 use Rattle.std.specs.Prelude.{ℕ, ◌≡◌, Bool, true, not, cond, ◌&&◌, List, [], ◌∷◌, eqb, leb}
 use Rattle.rules.specs.declared.Signal.{Signal}
@@ -18,10 +18,10 @@ use Rattle.rules.specs.declared.Ring.{Ring}
 use Rattle.rules.specs.declared.Board.{Board}
 use Rattle.rules.specs.Bits.{all}
 use Rattle.rules.specs.Record.{State}
-use Rattle.rules.specs.Parts.{withBurst, withLoad, withOutputs}
-use Rattle.rules.specs.Clocks.{closed, tickAccepted}
+use Rattle.rules.specs.Parts.{with_burst, with_load, with_outputs}
+use Rattle.rules.specs.Clocks.{closed, tick_accepted}
 use Rattle.rules.specs.Laws.Soundness.{Stands}
-use Rattle.moves.specs.Promises.{withLevels}
+use Rattle.moves.specs.Promises.{with_levels}
 use Rattle.board.specs.declared.Reply.{Reply}
 use Rattle.run.specs.declared.Cursor.{Cursor}
 use Rattle.run.specs.declared.Ahead.{Ahead}
@@ -32,27 +32,27 @@ use Rattle.listing.specs.declared.shortcuts.Change.{Change}
 -- ---- Which events
 
 -- 1 a write of v to 18h, 2 a tick
-unfoldable pub commonEvent : ℕ → ℕ → Event
-commonEvent kind v = cond (eqb kind 1) (Write 0x18 v) (signal Tick)
+unfoldable pub common_event : ℕ → ℕ → Event
+common_event kind v = cond (eqb kind 1) (Write 0x18 v) (signal Tick)
 
 -- what stands ahead, if it is one of these, as numbers
 abbrev pub uncommon : Common
 uncommon = record { kind = 0; value = 0; after = record { place = 0 } }
 
-abbrev pub commonSignal : Signal → Cursor → Common
-commonSignal Tick c = record { kind = 2; value = 0; after = c }
-commonSignal Outside c = uncommon
-commonSignal Trigger c = uncommon
-commonSignal Passed c = uncommon
-commonSignal Failed c = uncommon
-commonSignal Settled c = uncommon
+abbrev pub common_signal : Signal → Cursor → Common
+common_signal Tick c = record { kind = 2; value = 0; after = c }
+common_signal Outside c = uncommon
+common_signal Trigger c = uncommon
+common_signal Passed c = uncommon
+common_signal Failed c = uncommon
+common_signal Settled c = uncommon
 
-abbrev pub commonOf : Ahead → Common
-commonOf (Found (Write o v) c) = cond (eqb o 0x18) (record { kind = 1; value = v; after = c }) uncommon
-commonOf (Found (signal x) c) = commonSignal x c
-commonOf (Found (PowerUp x) c) = uncommon
-commonOf (Found (Read o) c) = uncommon
-commonOf (Over x) = uncommon
+abbrev pub common_of : Ahead → Common
+common_of (Found (Write o v) c) = cond (eqb o 0x18) (record { kind = 1; value = v; after = c }) uncommon
+common_of (Found (signal x) c) = common_signal x c
+common_of (Found (PowerUp x) c) = uncommon
+common_of (Found (Read o) c) = uncommon
+common_of (Over x) = uncommon
 
 -- No interrupt is selected, so that no edge can come of it; the active buffer is the whole one.
 unfoldable pub takes : Board → ℕ → Bool
@@ -62,7 +62,7 @@ takes b d =
     ∷ leb b.size.fitted b.size.code ∷ not (leb d b.ring.count) ∷ [])
 
 unfoldable pub ticks : Core → Bool
-ticks c = all (eqb c.control.selection 0 ∷ tickAccepted c ∷ [])
+ticks c = all (eqb c.control.selection 0 ∷ tick_accepted c ∷ [])
 
 unfoldable pub quick : Board → ℕ → ℕ → Bool
 quick b d kind = cond (eqb kind 1) (b.core.powered && takes b d) (b.core.powered && (eqb kind 2 && ticks b.core))
@@ -70,23 +70,23 @@ quick b d kind = cond (eqb kind 1) (b.core.powered && takes b d) (b.core.powered
 -- ---- What is new
 
 -- the board of its parts: those that no load and no tick changes stand in `rest`
-abbrev pub boardAs : Board → Core → Ring → Board
-boardAs rest core ring = record { core = core; size = rest.size; request = rest.request; ring = ring }
+abbrev pub board_as : Board → Core → Ring → Board
+board_as rest core ring = record { core = core; size = rest.size; request = rest.request; ring = ring }
 
-abbrev pub boardWith : Board → List ℕ → Board
-boardWith b ls = record { core = withLevels b.core ls; size = b.size; request = b.request; ring = b.ring }
+abbrev pub board_with : Board → List ℕ → Board
+board_with b ls = record { core = with_levels b.core ls; size = b.size; request = b.request; ring = b.ring }
 
-abbrev pub coreWith : Core → Change → List ℕ → Core
-coreWith c r ls =
-    withBurst r.burst
-    (withLoad r.load
-    (withOutputs (record { mask = c.outputs.mask; cursor = r.cursor; levels = ls }) c))
+abbrev pub core_with : Core → Change → List ℕ → Core
+core_with c r ls =
+    with_burst r.burst
+    (with_load r.load
+    (with_outputs (record { mask = c.outputs.mask; cursor = r.cursor; levels = ls }) c))
 
-abbrev pub boardOf : Board → Change → List ℕ → Board
-boardOf b r ls = record { core = coreWith b.core r ls; size = b.size; request = b.request; ring = r.ring }
+abbrev pub board_of : Board → Change → List ℕ → Board
+board_of b r ls = record { core = core_with b.core r ls; size = b.size; request = b.request; ring = r.ring }
 
-abbrev pub replyOf : Board → Change → List ℕ → Reply
-replyOf b r ls = record { answer = record { refusal = 0; register = 0; moved = r.moved; fate = r.fate }; board = boardOf b r ls }
+abbrev pub reply_of : Board → Change → List ℕ → Reply
+reply_of b r ls = record { answer = record { refusal = 0; register = 0; moved = r.moved; fate = r.fate }; board = board_of b r ls }
 
 abbrev pub InRun : State → Type 0
 InRun s = s.board.core.powered ≡ true → Stands s

@@ -3,9 +3,9 @@
 ghost use Rattle.std.specs.Prelude.{◌+◌, ◌≤◌, ◌≡◌, true, length};
 ghost use Rattle.rules.specs.Record.{depth, state_of};
 ghost use Rattle.rules.specs.Told.{Told};
-ghost use Rattle.record.specs.Capped.{cappedBoard};
-ghost use Rattle.listing.specs.Shortcuts.{commonOf, quick, boardAs, InRun};
-ghost use Rattle.listing.specs.Draft.{boardNow, draft, Fair, Hastens, Hurries};
+ghost use Rattle.record.specs.Capped.{capped_board};
+ghost use Rattle.listing.specs.Shortcuts.{common_of, quick, board_as, InRun};
+ghost use Rattle.listing.specs.Draft.{board_now, draft, Fair, Hastens, Hurries};
 
 use crate::parts::{whole, with_levels};
 use crate::shortcuts::{Change, at_once, common_of, quick};
@@ -32,7 +32,7 @@ pub(crate) fn stopped(
     at: usize,
     number: u32,
 ) -> Hurried
-    ensures { result ≡ record { board = boardNow rest core levels ring; ahead = ahead; at = at; number = number } }
+    ensures { result ≡ record { board = board_now rest core levels ring; ahead = ahead; at = at; number = number } }
 {
     Hurried {
         board: whole(rest, with_levels(core, levels), ring),
@@ -44,7 +44,7 @@ pub(crate) fn stopped(
 
 // Whether what stands ahead can be done at once.
 pub(crate) fn ready(rest: Board, core: Core, ring: Ring, d: u32, n: Ahead) -> bool
-    ensures { result ≡ quick (boardAs rest core ring) d (commonOf n).kind }
+    ensures { result ≡ quick (board_as rest core ring) d (common_of n).kind }
 {
     let x = common_of(n);
     quick(whole(rest, core, ring), d, x.kind)
@@ -71,7 +71,7 @@ pub(crate) fn hasten(
     memory: &mut [u32],
     out: &mut [u8],
 ) -> Hastened
-    requires { Told (depth (cappedBoard rest)) d × (quick (boardAs rest core ring) d (commonOf n).kind ≡ true) × InRun (state_of (boardNow rest core levels.old ring) memory.old) × (at + 64 ≤ length out.old) }
+    requires { Told (depth (capped_board rest)) d × (quick (board_as rest core ring) d (common_of n).kind ≡ true) × InRun (state_of (board_now rest core levels.old ring) memory.old) × (at + 64 ≤ length out.old) }
     ensures { Hastens rest core ring n at number levels.old memory.old out.old result levels.new memory.new out.new }
 {
     let x = common_of(n);

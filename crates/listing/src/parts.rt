@@ -1,7 +1,7 @@
 // The record of a run, put together of its parts.
 ghost use Rattle.std.specs.Prelude.{◌≡◌};
-ghost use Rattle.moves.specs.Promises.{withLevels};
-ghost use Rattle.listing.specs.Shortcuts.{boardAs};
+ghost use Rattle.moves.specs.Promises.{with_levels};
+ghost use Rattle.listing.specs.Shortcuts.{board_as};
 
 use rules::{
     Board, Burst, Calibration, Clock, Control, Core, Load, Lost, Mode, Options, Outputs, Ring,
@@ -9,7 +9,7 @@ use rules::{
 
 // What neither a load nor a tick changes stands in `rest`.
 pub(crate) fn whole(rest: Board, core: Core, ring: Ring) -> Board
-    ensures { result ≡ boardAs rest core ring }
+    ensures { result ≡ board_as rest core ring }
 {
     let size = rest.size;
     Board {
@@ -22,7 +22,7 @@ pub(crate) fn whole(rest: Board, core: Core, ring: Ring) -> Board
 
 // Field by field: of parts that are copied whole, the compiler keeps groups of flags in memory and waits for them.
 pub(crate) fn with_levels(core: Core, levels: [u16; 20]) -> Core
-    ensures { result ≡ withLevels core levels }
+    ensures { result ≡ with_levels core levels }
 {
     Core {
         powered: core.powered,

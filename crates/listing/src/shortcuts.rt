@@ -3,9 +3,9 @@
 ghost use Rattle.std.specs.Prelude.{◌≡◌, true};
 ghost use Rattle.rules.specs.declared.Event.TheVariants.{Write};
 ghost use Rattle.rules.specs.Told.{Told};
-ghost use Rattle.record.specs.Capped.{cappedBoard};
+ghost use Rattle.record.specs.Capped.{capped_board};
 ghost use Rattle.board.specs.Promises.{Stepped};
-ghost use Rattle.listing.specs.Shortcuts.{commonEvent, uncommon, commonSignal, commonOf, takes, ticks, quick, boardWith, replyOf, InRun};
+ghost use Rattle.listing.specs.Shortcuts.{common_event, uncommon, common_signal, common_of, takes, ticks, quick, board_with, reply_of, InRun};
 ghost use Rattle.rules.specs.Record.{depth, state_of};
 ghost use Rattle.run.specs.declared.Ahead.TheVariants.{Found};
 
@@ -35,7 +35,7 @@ pub(crate) fn uncommon() -> Common
 }
 
 pub(crate) fn written(offset: u32, value: u32, after: Cursor) -> Common
-    ensures { result ≡ commonOf (Found (Write offset value) after) }
+    ensures { result ≡ common_of (Found (Write offset value) after) }
 {
     if offset == 24 {
         return Common {
@@ -48,7 +48,7 @@ pub(crate) fn written(offset: u32, value: u32, after: Cursor) -> Common
 }
 
 pub(crate) fn signalled(x: Signal, after: Cursor) -> Common
-    ensures { result ≡ commonSignal x after }
+    ensures { result ≡ common_signal x after }
 {
     match x {
         Signal::Tick => Common {
@@ -65,7 +65,7 @@ pub(crate) fn signalled(x: Signal, after: Cursor) -> Common
 }
 
 pub(crate) fn common_of(n: Ahead) -> Common
-    ensures { result ≡ commonOf n }
+    ensures { result ≡ common_of n }
 {
     match n {
         Ahead::Found(e, after) => match e {
@@ -125,8 +125,8 @@ pub(crate) fn at_once(
     levels: &mut [u16; 20],
     memory: &mut [u32],
 ) -> Change
-    requires { Told (depth (cappedBoard b)) d × (quick b d kind ≡ true) × InRun (state_of (boardWith b levels.old) memory.old) }
-    ensures { Stepped (boardWith b levels.old) memory.old (commonEvent kind value) (replyOf b result levels.new) memory.new }
+    requires { Told (depth (capped_board b)) d × (quick b d kind ≡ true) × InRun (state_of (board_with b levels.old) memory.old) }
+    ensures { Stepped (board_with b levels.old) memory.old (common_event kind value) (reply_of b result levels.new) memory.new }
 {
     let core = b.core;
     let ring = b.ring;

@@ -5,35 +5,35 @@ use mathlib.Core.Bool.{true}
 use mathlib.Core.List.{List, []}
 use lib.ListN.{replicate}
 use Rattle.rules.specs.Session.{outcomes, after}
-use Rattle.rules.proofs.Open.{rules-open}
-use Rattle.rules.proofs.Bench.{alike, alike-equal}
-use Rattle.file_rules.specs.File.{faultNumber, length_of, signalOf, eventOf, eventAt, wholeRecord, recordAt, item_at, from, session}
-use Rattle.listing_rules.specs.Text.{decimalIn, hex, line, levelsIn, levelsLine, fileLine, tail}
-use Rattle.listing_rules.specs.Listing.{lines, ending, listing, text, memoryAfter}
-use Rattle.listing_rules.specs.Examples.{mixed, mixedListing, emptyListing, Mixed-listed, Empty-listed, Memories-told}
+use Rattle.rules.proofs.Open.{rules_open}
+use Rattle.rules.proofs.Bench.{alike, alike_equal}
+use Rattle.file_rules.specs.File.{fault_number, length_of, signal_of, event_of, event_at, whole_record, record_at, item_at, from, session}
+use Rattle.listing_rules.specs.Text.{decimal_in, hex, line, levels_in, levels_line, file_line, tail}
+use Rattle.listing_rules.specs.Listing.{lines, ending, listing, text, memory_after}
+use Rattle.listing_rules.specs.Examples.{mixed, mixed_listing, empty_listing, Mixed-listed, Empty-listed, Memories-told}
 
-mixed-true : alike (text mixed (replicate 16 0)) mixedListing ≡ true
+mixed_true : alike (text mixed (replicate 16 0)) mixed_listing ≡ true
 unfolding
-    rules-open outcomes after alike
-    faultNumber length_of signalOf eventOf eventAt wholeRecord recordAt item_at from session
-    decimalIn hex line levelsIn levelsLine fileLine tail
+    rules_open outcomes after alike
+    fault_number length_of signal_of event_of event_at whole_record record_at item_at from session
+    decimal_in hex line levels_in levels_line file_line tail
     lines ending listing text
-mixed-true = refl
+mixed_true = refl
 
-pub mixed-listed : Mixed-listed
-mixed-listed = alike-equal _ _ mixed-true
+pub mixed_listed : Mixed-listed
+mixed_listed = alike_equal _ _ mixed_true
 
-empty-true : (m : List ℕ) → alike (text [] m) emptyListing ≡ true
+empty_true : (m : List ℕ) → alike (text [] m) empty_listing ≡ true
 unfolding
-    rules-open outcomes after alike
-    faultNumber length_of signalOf eventOf eventAt wholeRecord recordAt item_at from session
-    decimalIn hex line levelsIn levelsLine fileLine tail
+    rules_open outcomes after alike
+    fault_number length_of signal_of event_of event_at whole_record record_at item_at from session
+    decimal_in hex line levels_in levels_line file_line tail
     lines ending listing text
-empty-true m = refl
+empty_true m = refl
 
-pub empty-listed : Empty-listed
-empty-listed m = alike-equal _ _ (empty-true m)
+pub empty_listed : Empty-listed
+empty_listed m = alike_equal _ _ (empty_true m)
 
-pub memories-told : Memories-told
-unfolding rules-open after faultNumber length_of signalOf eventOf eventAt wholeRecord recordAt item_at from session memoryAfter
-memories-told = record { refused = refl; version-2 = refl; done = refl }
+pub memories_told : Memories-told
+unfolding rules_open after fault_number length_of signal_of event_of event_at whole_record record_at item_at from session memory_after
+memories_told = record { refused = refl; version_2 = refl; done = refl }

@@ -2,7 +2,7 @@
 -- empty file; and memories after files, entry by entry.
 use Rattle.std.specs.Prelude.{ℕ, ◌≡◌, List, [], ◌∷◌, ◌++◌, replicate}
 use Rattle.basics.specs.Ascii.{ascii}
-use Rattle.listing_rules.specs.Listing.{text, memoryAfter}
+use Rattle.listing_rules.specs.Listing.{text, memory_after}
 use Rattle.listing_rules.specs.Laws.{scope}
 
 -- 01: "A run starts unpowered and goes on past refused events and lost values. A file refusal stops it"
@@ -49,8 +49,8 @@ mixed =
     ∷ 0x00 ∷ 0x01 ∷ 0x0A
     ∷ []
 
-abbrev pub mixedListing : List ℕ
-mixedListing =
+abbrev pub mixed_listing : List ℕ
+mixed_listing =
     ascii "REHEARSAL 1\n"
     ++ ascii "1 3 00000000 0 0 0\n"
     ++ ascii "2 14 00000000 0 0 0\n"
@@ -85,21 +85,21 @@ mixedListing =
 
 -- on a board with room for sixteen values
 abbrev pub Mixed-listed : Type 0
-Mixed-listed = text mixed (replicate 16 0) ≡ mixedListing
+Mixed-listed = text mixed (replicate 16 0) ≡ mixed_listing
 
-abbrev pub emptyListing : List ℕ
-emptyListing =
+abbrev pub empty_listing : List ℕ
+empty_listing =
     ascii "REHEARSAL 1\n"
     ++ ascii "FILE 10 0\n"
     ++ ascii "LEVELS 0000 0000 0000 0000 0000 0000 0000 0000 0000 0000 0000 0000 0000 0000 0000 0000 0000 0000 0000 0000\n"
 
 -- 01: "10 session file empty ..", "0 for refusal 10"; on any memory
 abbrev pub Empty-listed : Type 0
-Empty-listed = (m : List ℕ) → text [] m ≡ emptyListing
+Empty-listed = (m : List ℕ) → text [] m ≡ empty_listing
 
 -- a power-up of depth 8, the loads 5 and 10006h, and then a record of kind 10 with a load behind it
-abbrev pub refusedBehindLoads : List ℕ
-refusedBehindLoads =
+abbrev pub refused_behind_loads : List ℕ
+refused_behind_loads =
     0x01
     ∷ 0x00 ∷ 0x07 ∷ 0x01 ∷ 0x00 ∷ 0x00 ∷ 0x00 ∷ 0x00 ∷ 0x00 ∷ 0x00
     ∷ 0x00 ∷ 0x06 ∷ 0x02 ∷ 0x18 ∷ 0x00 ∷ 0x00 ∷ 0x00 ∷ 0x05
@@ -110,11 +110,11 @@ refusedBehindLoads =
 
 -- 01: "A file refusal stops it, and record and memory stay as the earlier records left them."
 pub record MemoriesTold : Type 0 where
-  pub refused : memoryAfter refusedBehindLoads (replicate 9 0xEE) ≡ 5 ∷ 0x10006 ∷ replicate 7 0xEE
+  pub refused : memory_after refused_behind_loads (replicate 9 0xEE) ≡ 5 ∷ 0x10006 ∷ replicate 7 0xEE
   -- no record before it
-  pub version-2 : memoryAfter (0x02 ∷ []) (replicate 3 0xEE) ≡ replicate 3 0xEE
+  pub version_2 : memory_after (0x02 ∷ []) (replicate 3 0xEE) ≡ replicate 3 0xEE
   -- 01's example, which is not refused
-  pub done : memoryAfter scope (replicate 9 0xEE) ≡ 0x9000 ∷ 0x7000 ∷ replicate 7 0xEE
+  pub done : memory_after scope (replicate 9 0xEE) ≡ 0x9000 ∷ 0x7000 ∷ replicate 7 0xEE
 
 abbrev pub Memories-told : Type 0
 Memories-told = MemoriesTold

@@ -8,32 +8,32 @@ use Rattle.rules.specs.Session.{after}
 use Rattle.file_rules.specs.declared.Fault.{Fault}
 use Rattle.file_rules.specs.declared.End.TheVariants.{Refused}
 use Rattle.file_rules.specs.declared.Item.TheVariants.{Over}
-use Rattle.file_rules.specs.Bytes.{fileOf, AllFit}
-use Rattle.file_rules.specs.File.{faultNumber, item_at}
+use Rattle.file_rules.specs.Bytes.{file_of, AllFit}
+use Rattle.file_rules.specs.File.{fault_number, item_at}
 use Rattle.basics.specs.Ascii.{ascii}
-use Rattle.listing_rules.specs.Text.{decimal, levelsLine}
-use Rattle.listing_rules.specs.Listing.{levelsOf, text, memoryAfter}
+use Rattle.listing_rules.specs.Text.{decimal, levels_line}
+use Rattle.listing_rules.specs.Listing.{levels_of, text, memory_after}
 
 -- 01: "A file refusal stops it, and record and memory stay as the earlier records left them": of a file s beside the file of its events
 pub record LeftRefused (es : List Event) (s m : List ℕ) (n p : ℕ) : Type 0 where
-  pub memory : memoryAfter s m ≡ memoryAfter (fileOf es) m
-  pub played : memoryAfter s m ≡ (after (start m) es).memory
+  pub memory : memory_after s m ≡ memory_after (file_of es) m
+  pub played : memory_after s m ≡ (after (start m) es).memory
   -- the texts of both files up to the levels, "`FILE n p` .. before LEVELS" aside
   pub lines : List ℕ
-  pub whole : text (fileOf es) m ≡ lines ++ levelsLine (levelsOf (after (start m) es))
+  pub whole : text (file_of es) m ≡ lines ++ levels_line (levels_of (after (start m) es))
   pub refused : text s m
       ≡ lines
       ++ (ascii "FILE " ++ decimal n ++ ascii " " ++ decimal p ++ ascii "\n")
-      ++ levelsLine (levelsOf (after (start m) es))
+      ++ levels_line (levels_of (after (start m) es))
 
 abbrev pub Refused-left : Type 0
 Refused-left =
     (es : List Event) (ys m : List ℕ) (why : Fault) (p : ℕ)
     → AllFit es
-    → length (fileOf es ++ ys) ≤ 65536
-    → item_at (fileOf es ++ ys) (length (fileOf es)) ≡ Over (Refused why p)
-    → LeftRefused es (fileOf es ++ ys) m (faultNumber why) p
+    → length (file_of es ++ ys) ≤ 65536
+    → item_at (file_of es ++ ys) (length (file_of es)) ≡ Over (Refused why p)
+    → LeftRefused es (file_of es ++ ys) m (fault_number why) p
 
 -- 01: "(at most 65,536 bytes ..)"; "A longer input prints only `TOO LONG`.": it is not run
 abbrev pub Too-long-memory : Type 0
-Too-long-memory = (s m : List ℕ) → 65536 < length s → memoryAfter s m ≡ m
+Too-long-memory = (s m : List ℕ) → 65536 < length s → memory_after s m ≡ m

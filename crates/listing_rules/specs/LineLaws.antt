@@ -1,6 +1,6 @@
 -- Which lines a listing has, and what a line says (01, "Session file and listing"), in other words than the definitions: the text is cut
 -- at its newlines, and a line at its spaces.
---   cutBehind c t   the pieces of a text, cut behind each character c
+--   cut_behind c t   the pieces of a text, cut behind each character c
 --   Lines-listed    the heading, a line for each event, one for a file refusal, the levels, and no other
 --   Line-says       six fields between single spaces and a newline, each read back to its number
 --   Levels-say      LEVELS, and each level in its turn, read back
@@ -12,52 +12,52 @@ use Rattle.rules.specs.Step.{Outcome, step}
 use Rattle.rules.specs.Session.{after}
 use Rattle.file_rules.specs.declared.Fault.{Fault}
 use Rattle.file_rules.specs.declared.End.TheVariants.{File, Refused}
-use Rattle.file_rules.specs.File.{faultNumber, session}
+use Rattle.file_rules.specs.File.{fault_number, session}
 use Rattle.basics.specs.Ascii.{ascii, newline, space}
-use Rattle.listing_rules.specs.Text.{decimal, line, levelsLine}
-use Rattle.listing_rules.specs.Listing.{levelsOf, listing}
+use Rattle.listing_rules.specs.Text.{decimal, line, levels_line}
+use Rattle.listing_rules.specs.Listing.{levels_of, listing}
 use Rattle.listing_rules.specs.Laws.{said}
 
 -- ---- Pieces of a text
 
 -- a character in front of the first piece
-abbrev pub onFirst : ℕ → List (List ℕ) → List (List ℕ)
-onFirst x [] = (x ∷ []) ∷ []
-onFirst x (l ∷ ls) = (x ∷ l) ∷ ls
+abbrev pub on_first : ℕ → List (List ℕ) → List (List ℕ)
+on_first x [] = (x ∷ []) ∷ []
+on_first x (l ∷ ls) = (x ∷ l) ∷ ls
 
-unfoldable pub cutBehind : ℕ → List ℕ → List (List ℕ)
-cutBehind c [] = []
-cutBehind c (x ∷ xs) = cond (eqb x c) ((x ∷ []) ∷ cutBehind c xs) (onFirst x (cutBehind c xs))
+unfoldable pub cut_behind : ℕ → List ℕ → List (List ℕ)
+cut_behind c [] = []
+cut_behind c (x ∷ xs) = cond (eqb x c) ((x ∷ []) ∷ cut_behind c xs) (on_first x (cut_behind c xs))
 
 -- ---- The lines of a listing
 
-abbrev pub linesIn : List ℕ → List ℕ → List (List ℕ)
-linesIn s m = cutBehind newline (listing s m)
+abbrev pub lines_in : List ℕ → List ℕ → List (List ℕ)
+lines_in s m = cut_behind newline (listing s m)
 
 -- line k, the heading being line 0
-abbrev pub lineIn : List ℕ → List ℕ → ℕ → List ℕ
-lineIn s m k = get_or (linesIn s m) k []
+abbrev pub line_in : List ℕ → List ℕ → ℕ → List ℕ
+line_in s m k = get_or (lines_in s m) k []
 
 -- the line of an outcome
-abbrev pub outcomeLine : ℕ → Outcome → List ℕ
-outcomeLine k o = line k o.answer o.state.board.ring.count
+abbrev pub outcome_line : ℕ → Outcome → List ℕ
+outcome_line k o = line k o.answer o.state.board.ring.count
 
 pub record LinesListed (s m : List ℕ) (es : List Event) : Type 0 where
-  pub heading : lineIn s m 0 ≡ ascii "REHEARSAL 1\n"
+  pub heading : line_in s m 0 ≡ ascii "REHEARSAL 1\n"
   -- 01: "A run .. goes on past refused events and lost values": each event has its line, whatever became of it and of those before it,
   -- and "record number" counts them all
   pub events :
       (before behind : List Event) (e : Event)
       → es ≡ before ++ e ∷ behind
-      → lineIn s m (length before + 1) ≡ outcomeLine (length before + 1) (step (after (start m) before) e)
+      → line_in s m (length before + 1) ≡ outcome_line (length before + 1) (step (after (start m) before) e)
   -- a file that is not refused: the levels, and that is all
   pub whole : (session s).end ≡ File
-      → (length (linesIn s m) ≡ length es + 2) × (lineIn s m (length es + 1) ≡ levelsLine (levelsOf (after (start m) es)))
+      → (length (lines_in s m) ≡ length es + 2) × (line_in s m (length es + 1) ≡ levels_line (levels_of (after (start m) es)))
   -- 01: "A file refusal prints `FILE n p` .. before LEVELS."
   pub refused : (why : Fault) (p : ℕ) → (session s).end ≡ Refused why p
-      → (length (linesIn s m) ≡ length es + 3)
-      × (lineIn s m (length es + 1) ≡ ascii "FILE " ++ decimal (faultNumber why) ++ ascii " " ++ decimal p ++ ascii "\n")
-      × (lineIn s m (length es + 2) ≡ levelsLine (levelsOf (after (start m) es)))
+      → (length (lines_in s m) ≡ length es + 3)
+      × (line_in s m (length es + 1) ≡ ascii "FILE " ++ decimal (fault_number why) ++ ascii " " ++ decimal p ++ ascii "\n")
+      × (line_in s m (length es + 2) ≡ levels_line (levels_of (after (start m) es)))
 
 abbrev pub Lines-listed : Type 0
 Lines-listed = (s m : List ℕ) → LinesListed s m (session s).events
@@ -77,26 +77,26 @@ pub record InEightHex (n : ℕ) (digits : List ℕ) : Type 0 where
 
 -- 01: "Fields: record number, the four answers, count after; the register value in eight hex digits, the others decimal"
 pub record LineSays (k : ℕ) (a : Answer) (count : ℕ) (l : List ℕ) : Type 0 where
-  pub number-field : List ℕ
-  pub refusal-field : List ℕ
-  pub register-field : List ℕ
-  pub moved-field : List ℕ
-  pub fate-field : List ℕ
-  pub count-field : List ℕ
-  pub fields : cutBehind space l
-      ≡ (number-field ++ ascii " ")
-      ∷ (refusal-field ++ ascii " ")
-      ∷ (register-field ++ ascii " ")
-      ∷ (moved-field ++ ascii " ")
-      ∷ (fate-field ++ ascii " ")
-      ∷ (count-field ++ ascii "\n")
+  pub number_field : List ℕ
+  pub refusal_field : List ℕ
+  pub register_field : List ℕ
+  pub moved_field : List ℕ
+  pub fate_field : List ℕ
+  pub count_field : List ℕ
+  pub fields : cut_behind space l
+      ≡ (number_field ++ ascii " ")
+      ∷ (refusal_field ++ ascii " ")
+      ∷ (register_field ++ ascii " ")
+      ∷ (moved_field ++ ascii " ")
+      ∷ (fate_field ++ ascii " ")
+      ∷ (count_field ++ ascii "\n")
       ∷ []
-  pub number-said : InDecimal k number-field
-  pub refusal-said : InDecimal a.refusal refusal-field
-  pub register-said : InEightHex a.register register-field
-  pub moved-said : InDecimal a.moved moved-field
-  pub fate-said : InDecimal a.fate fate-field
-  pub count-said : InDecimal count count-field
+  pub number_said : InDecimal k number_field
+  pub refusal_said : InDecimal a.refusal refusal_field
+  pub register_said : InEightHex a.register register_field
+  pub moved_said : InDecimal a.moved moved_field
+  pub fate_said : InDecimal a.fate fate_field
+  pub count_said : InDecimal count count_field
 
 abbrev pub Line-says : Type 0
 Line-says =
@@ -125,4 +125,4 @@ abbrev pub Levels-say : Type 0
 Levels-say =
     (x : ℕ) (xs : List ℕ)
     → ((i : ℕ) → get_or (x ∷ xs) i 0 < 2 ^ 16)
-    → (ps : List (List ℕ)) × (cutBehind space (levelsLine (x ∷ xs)) ≡ ascii "LEVELS " ∷ ps) × LevelsSaid (x ∷ xs) ps
+    → (ps : List (List ℕ)) × (cut_behind space (levels_line (x ∷ xs)) ≡ ascii "LEVELS " ∷ ps) × LevelsSaid (x ∷ xs) ps

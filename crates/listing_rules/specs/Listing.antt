@@ -8,7 +8,7 @@ use Rattle.rules.specs.Step.{Outcome}
 use Rattle.rules.specs.Session.{outcomes, after}
 use Rattle.file_rules.specs.declared.End.{End}
 use Rattle.file_rules.specs.File.{Session, session, verdict}
-use Rattle.listing_rules.specs.Text.{heading, tooLong, line, tail}
+use Rattle.listing_rules.specs.Text.{heading, too_long, line, tail}
 
 -- ---- The parts
 
@@ -16,14 +16,14 @@ unfoldable pub lines : ℕ → List Outcome → List ℕ
 lines k [] = []
 lines k (o ∷ os) = line k o.answer o.state.board.ring.count ++ lines (k + 1) os
 
-abbrev pub levelsOf : State → List ℕ
-levelsOf st = st.board.core.outputs.levels
+abbrev pub levels_of : State → List ℕ
+levels_of st = st.board.core.outputs.levels
 
 unfoldable pub ending : End → List ℕ → List ℕ
 ending end levels = tail (verdict end).number (verdict end).place levels
 
 abbrev pub body : ℕ → State → Session → List ℕ
-body k st x = lines k (outcomes st x.events) ++ ending x.end (levelsOf (after st x.events))
+body k st x = lines k (outcomes st x.events) ++ ending x.end (levels_of (after st x.events))
 
 -- ---- The whole
 
@@ -37,11 +37,11 @@ abbrev pub longest : ℕ
 longest = 65536
 
 unfoldable pub text : List ℕ → List ℕ → List ℕ
-text s m = cond (ltb longest (length s)) tooLong (listing s m)
+text s m = cond (ltb longest (length s)) too_long (listing s m)
 
 -- a file that is too long is not run
-unfoldable pub memoryAfter : List ℕ → List ℕ → List ℕ
-memoryAfter s m = cond (ltb longest (length s)) m (after (start m) (session s).events).memory
+unfoldable pub memory_after : List ℕ → List ℕ → List ℕ
+memory_after s m = cond (ltb longest (length s)) m (after (start m) (session s).events).memory
 
 -- how long an output has to be for a file of n bytes: a record has three bytes or more, and its line sixty-four or fewer
 unfoldable pub room : ℕ → ℕ

@@ -2,8 +2,8 @@
 --   decimal n        a number below 2^32 in decimal, without leading zeros
 --   hex k n          the last k hexadecimal digits of n, in capitals
 --   line k a count   the line of the record number k, which answered a and left count values
---   levelsLine ls    the last line: the levels in four digits, channel 00 first
---   fileLine n p     the line of a file refusal
+--   levels_line ls    the last line: the levels in four digits, channel 00 first
+--   file_line n p     the line of a file refusal
 --   tail n p ls      how a listing ends
 use Rattle.std.specs.Prelude.{ℕ, zero, suc, ◌+◌, ◌/◌, ◌%◌, cond, List, [], ◌∷◌, ◌++◌, eqb, ltb}
 use Rattle.basics.specs.Ascii.{ascii, newline, space}
@@ -20,13 +20,13 @@ abbrev pub capital : ℕ → ℕ
 capital d = cond (ltb d 10) (48 + d) (55 + d)
 
 -- of at most f + 1 digits
-unfoldable pub decimalIn : ℕ → ℕ → List ℕ
-decimalIn zero n = digit n ∷ []
-decimalIn (suc f) n = cond (ltb n 10) (digit n ∷ []) (decimalIn f (n / 10) ++ digit (n % 10) ∷ [])
+unfoldable pub decimal_in : ℕ → ℕ → List ℕ
+decimal_in zero n = digit n ∷ []
+decimal_in (suc f) n = cond (ltb n 10) (digit n ∷ []) (decimal_in f (n / 10) ++ digit (n % 10) ∷ [])
 
 -- a number below 2^32 has at most ten digits
 abbrev pub decimal : ℕ → List ℕ
-decimal n = decimalIn 9 n
+decimal n = decimal_in 9 n
 
 unfoldable pub hex : ℕ → ℕ → List ℕ
 hex zero n = []
@@ -37,14 +37,14 @@ hex (suc k) n = hex k (n / 16) ++ capital (n % 16) ∷ []
 abbrev pub heading : List ℕ
 heading = ascii "REHEARSAL 1\n"
 
-abbrev pub fileHead : List ℕ
-fileHead = ascii "FILE "
+abbrev pub file_head : List ℕ
+file_head = ascii "FILE "
 
-abbrev pub levelsHead : List ℕ
-levelsHead = ascii "LEVELS"
+abbrev pub levels_head : List ℕ
+levels_head = ascii "LEVELS"
 
-abbrev pub tooLong : List ℕ
-tooLong = ascii "TOO LONG\n"
+abbrev pub too_long : List ℕ
+too_long = ascii "TOO LONG\n"
 
 -- ---- Lines
 
@@ -60,17 +60,17 @@ line k a count =
     ++ newline ∷ []
 
 -- 01: "levels in four, channel 00 first"
-unfoldable pub levelsIn : List ℕ → List ℕ
-levelsIn [] = newline ∷ []
-levelsIn (x ∷ xs) = space ∷ hex 4 x ++ levelsIn xs
+unfoldable pub levels_in : List ℕ → List ℕ
+levels_in [] = newline ∷ []
+levels_in (x ∷ xs) = space ∷ hex 4 x ++ levels_in xs
 
-unfoldable pub levelsLine : List ℕ → List ℕ
-levelsLine levels = levelsHead ++ levelsIn levels
+unfoldable pub levels_line : List ℕ → List ℕ
+levels_line levels = levels_head ++ levels_in levels
 
 -- 01: "A file refusal prints `FILE n p`"
-unfoldable pub fileLine : ℕ → ℕ → List ℕ
-fileLine n p = fileHead ++ decimal n ++ space ∷ decimal p ++ newline ∷ []
+unfoldable pub file_line : ℕ → ℕ → List ℕ
+file_line n p = file_head ++ decimal n ++ space ∷ decimal p ++ newline ∷ []
 
 -- 01: "A file refusal prints `FILE n p` .. before LEVELS."; n is 0 where there is none
 unfoldable pub tail : ℕ → ℕ → List ℕ → List ℕ
-tail n p levels = cond (eqb n 0) [] (fileLine n p) ++ levelsLine levels
+tail n p levels = cond (eqb n 0) [] (file_line n p) ++ levels_line levels

@@ -8,10 +8,10 @@ use Rattle.rules.specs.Clocks.{only, moving, moves, clock}
 use Rattle.rules.specs.Place.{place}
 use Rattle.moves.specs.Does.{Does}
 
-pub only-does : (c : Core) (d : ℕ) (ring : Ring) (m : List ℕ) → Does d (only c) ring m (record { core = c; ring = ring; moved = 0; fate = 0 }) m
+pub only_does : (c : Core) (d : ℕ) (ring : Ring) (m : List ℕ) → Does d (only c) ring m (record { core = c; ring = ring; moved = 0; fate = 0 }) m
 unfolding place
-only-does c d ring m = record { core = refl; moved = refl; fate = refl; ring = refl; memory = refl }
+only_does c d ring m = record { core = refl; moved = refl; fate = refl; ring = refl; memory = refl }
 
-pub clock-none : (c : Core) (buf : List ℕ) → moving c buf ≡ 0 → clock c buf ≡ only c
+pub clock_none : (c : Core) (buf : List ℕ) → moving c buf ≡ 0 → clock c buf ≡ only c
 unfolding clock moves
-clock-none c buf h = ap (moves c buf) h
+clock_none c buf h = ap (moves c buf) h

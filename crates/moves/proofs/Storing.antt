@@ -8,21 +8,21 @@ use lib.Dec.{leb}
 use lib.ListN.{length, set}
 use Rattle.rules.specs.declared.Core.{Core}
 use Rattle.rules.specs.declared.Ring.{Ring}
-use Rattle.rules.specs.Record.{valueSpan}
-use Rattle.rules.specs.Parts.{withLost}
-use Rattle.rules.specs.Clocks.{Play, keep, store, wasStored, lostToFull, lostToClosed, fateNumber, only, closed}
-use Rattle.rules.specs.Writes.{writeData}
+use Rattle.rules.specs.Record.{value_span}
+use Rattle.rules.specs.Parts.{with_lost}
+use Rattle.rules.specs.Clocks.{Play, keep, store, was_stored, lost_to_full, lost_to_closed, fate_number, only, closed}
+use Rattle.rules.specs.Writes.{write_data}
 use Rattle.rules.specs.Place.{place}
 use Rattle.moves.specs.declared.Stored.{Stored}
-use Rattle.moves.specs.Ready.{canLoad, fateOf}
-use Rattle.moves.specs.Does.{ringPlace}
+use Rattle.moves.specs.Ready.{can_load, fate_of}
+use Rattle.moves.specs.Does.{ring_place}
 use Rattle.moves.specs.Promises.{LoadsOne}
 use Rattle.moves.proofs.Tested.{Fitting}
 
 module _ (c : Core) (size : ℕ) (ring : Ring) (d v : ℕ) (m : List ℕ) (r : Stored) (m' : List ℕ) where
   pub stored_loaded : Fitting c size ring d m → r.fate ≡ 1 → r.ring ≡ record { first = ring.first; count = ring.count + 1 }
-      → m' ≡ set m ((ring.first + ring.count) % d) (v % valueSpan) → LoadsOne c size ring d v m r m'
-  unfolding writeData place
+      → m' ≡ set m ((ring.first + ring.count) % d) (v % value_span) → LoadsOne c size ring d v m r m'
+  unfolding write_data place
   stored_loaded f e p q =
       record {
         fate = rw (f.can, f.unclosed, f.unfull) e;
@@ -35,17 +35,17 @@ module _ (c : Core) (size : ℕ) (ring : Ring) (d v : ℕ) (m : List ℕ) (r : S
   Agrees n p =
       r.fate ≡ n
       → n ≢ 1
-      → (r.fate ≡ fateNumber p.fate) × (r.ring ≡ (place d p.op (ringPlace ring m)).ring) × (m' ≡ (place d p.op (ringPlace ring m)).memory)
+      → (r.fate ≡ fate_number p.fate) × (r.ring ≡ (place d p.op (ring_place ring m)).ring) × (m' ≡ (place d p.op (ring_place ring m)).memory)
 
-  pub lost-loaded : r.ring ≡ ring → m' ≡ m → r.fate ≡ fateOf c size ring d (length m) → fateOf c size ring d (length m) ≢ 1 → LoadsOne c size ring d v m r m'
-  unfolding fateOf writeData place
-  lost-loaded p q e n = let w = go (canLoad size ring d (length m)) (closed c) (leb size ring.count) e n in record { fate = w.0; ring = w.1; memory = w.2 }
+  pub lost_loaded : r.ring ≡ ring → m' ≡ m → r.fate ≡ fate_of c size ring d (length m) → fate_of c size ring d (length m) ≢ 1 → LoadsOne c size ring d v m r m'
+  unfolding fate_of write_data place
+  lost_loaded p q e n = let w = go (can_load size ring d (length m)) (closed c) (leb size ring.count) e n in record { fate = w.0; ring = w.1; memory = w.2 }
     where
       go : (t u w : Bool) → Agrees (cond t (cond u 3 (cond w 2 1)) 0)
           (cond t
-          (cond u (record { core = withLost (record { full = c.lost.full; closed = true }) c; op = keep; moved = 0; fate = lostToClosed })
-          (cond w (record { core = withLost (record { full = true; closed = c.lost.closed }) c; op = keep; moved = 0; fate = lostToFull })
-          (record { core = c; op = store (v % valueSpan); moved = 0; fate = wasStored })))
+          (cond u (record { core = with_lost (record { full = c.lost.full; closed = true }) c; op = keep; moved = 0; fate = lost_to_closed })
+          (cond w (record { core = with_lost (record { full = true; closed = c.lost.closed }) c; op = keep; moved = 0; fate = lost_to_full })
+          (record { core = c; op = store (v % value_span); moved = 0; fate = was_stored })))
           (only c))
       go true true w e n = (e, p, q)
       go true false true e n = (e, p, q)

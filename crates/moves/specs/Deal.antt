@@ -1,13 +1,13 @@
 -- Values given to channels one after the other, as the code does it.
---   dealOne   the value at the front goes to the channel k; it leaves, or leaves and is stored again
---   dealAll   one to each channel of a list, as far as there are any
+--   deal_one   the value at the front goes to the channel k; it leaves, or leaves and is stored again
+--   deal_all   one to each channel of a list, as far as there are any
 use Rattle.std.specs.Prelude.{ℕ, ◌%◌, Bool, true, false, cond, ◌||◌, List, [], ◌∷◌, eqb, get_or, set}
 use Rattle.rules.specs.declared.Ring.{Ring}
 use Rattle.rules.specs.Bits.{bit}
-use Rattle.rules.specs.Record.{valueSpan}
+use Rattle.rules.specs.Record.{value_span}
 use Rattle.rules.specs.Clocks.{coded}
-use Rattle.rules.specs.Place.{Place, placeLeave, placeAgain}
-use Rattle.moves.specs.Does.{ringPlace}
+use Rattle.rules.specs.Place.{Place, place_leave, place_again}
+use Rattle.moves.specs.Does.{ring_place}
 
 -- the levels, the ring, whether a value that left carried EOF, and the memory
 pub record Dealing : Type 0 where
@@ -20,24 +20,24 @@ abbrev pub dealing : List ℕ → Ring → Bool → List ℕ → Dealing
 dealing levels ring ended m = record { levels = levels; ring = ring; ended = ended; memory = m }
 
 abbrev pub front : Dealing → ℕ
-front s = get_or s.memory s.ring.first 0 % valueSpan
+front s = get_or s.memory s.ring.first 0 % value_span
 
-abbrev pub placePassed : Bool → ℕ → Place → Place
-placePassed true d p = placeAgain d p
-placePassed false d p = placeLeave d p
+abbrev pub place_passed : Bool → ℕ → Place → Place
+place_passed true d p = place_again d p
+place_passed false d p = place_leave d p
 
-abbrev pub placeNow : Dealing → Place
-placeNow s = ringPlace s.ring s.memory
+abbrev pub place_now : Dealing → Place
+place_now s = ring_place s.ring s.memory
 
-unfoldable pub dealOne : Bool → Bool → ℕ → ℕ → Dealing → Dealing
-dealOne binary again d k s =
+unfoldable pub deal_one : Bool → Bool → ℕ → ℕ → Dealing → Dealing
+deal_one binary again d k s =
     record {
       levels = set s.levels k (coded binary (front s));
-      ring = (placePassed again d (placeNow s)).ring;
+      ring = (place_passed again d (place_now s)).ring;
       ended = s.ended || bit 16 (front s);
-      memory = (placePassed again d (placeNow s)).memory;
+      memory = (place_passed again d (place_now s)).memory;
     }
 
-unfoldable pub dealAll : Bool → Bool → ℕ → List ℕ → Dealing → Dealing
-dealAll binary again d [] s = s
-dealAll binary again d (k ∷ ks) s = cond (eqb s.ring.count 0) s (dealAll binary again d ks (dealOne binary again d k s))
+unfoldable pub deal_all : Bool → Bool → ℕ → List ℕ → Dealing → Dealing
+deal_all binary again d [] s = s
+deal_all binary again d (k ∷ ks) s = cond (eqb s.ring.count 0) s (deal_all binary again d ks (deal_one binary again d k s))

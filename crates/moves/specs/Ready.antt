@@ -17,9 +17,9 @@ unfoldable pub fits : Ring → ℕ → ℕ → Bool
 fits ring d len = all (ltb ring.first d ∷ leb ring.count d ∷ leb d len ∷ leb d 262144 ∷ [])
 
 -- the active size is at most the depth, so that a buffer below it has room
-unfoldable pub canLoad : ℕ → Ring → ℕ → ℕ → Bool
-canLoad size ring d len = fits ring d len && leb size d
+unfoldable pub can_load : ℕ → Ring → ℕ → ℕ → Bool
+can_load size ring d len = fits ring d len && leb size d
 
 -- what becomes of a load, as a number
-unfoldable pub fateOf : Core → ℕ → Ring → ℕ → ℕ → ℕ
-fateOf c size ring d len = cond (canLoad size ring d len) (cond (closed c) 3 (cond (leb size ring.count) 2 1)) 0
+unfoldable pub fate_of : Core → ℕ → Ring → ℕ → ℕ → ℕ
+fate_of c size ring d len = cond (can_load size ring d len) (cond (closed c) 3 (cond (leb size ring.count) 2 1)) 0

@@ -1,6 +1,6 @@
 // A value as a level, and what the end of a frame ends.
 ghost use Rattle.std.specs.Prelude.{◌≡◌};
-ghost use Rattle.rules.specs.Clocks.{coded, burstAfter, loadAfter};
+ghost use Rattle.rules.specs.Clocks.{coded, burst_after, load_after};
 
 use rules::{Burst, Load};
 
@@ -16,7 +16,7 @@ pub(crate) fn coded(binary: bool, v: u32) -> u16
 
 // 01: "a burst ends"
 pub(crate) fn burst_after(ended: bool, x: Burst) -> Burst
-    ensures { result ≡ burstAfter ended x }
+    ensures { result ≡ burst_after ended x }
 {
     if ended {
         return Burst {
@@ -29,7 +29,7 @@ pub(crate) fn burst_after(ended: bool, x: Burst) -> Burst
 
 // 01: "opened becomes closed; else pending becomes opened"
 pub(crate) fn load_after(ended: bool, x: Load) -> Load
-    ensures { result ≡ loadAfter ended x }
+    ensures { result ≡ load_after ended x }
 {
     if ended {
         return Load {

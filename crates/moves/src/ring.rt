@@ -1,9 +1,9 @@
 // Where the stored values stand in the sample memory, and how one leaves.
 ghost use Rattle.std.specs.Prelude.{◌+◌, ◌%◌, ◌<◌, ◌≤◌, ◌≡◌, get_or};
-ghost use Rattle.rules.specs.Record.{valueSpan};
+ghost use Rattle.rules.specs.Record.{value_span};
 ghost use Rattle.moves.specs.Ready.{Ready};
-ghost use Rattle.moves.specs.Does.{ringPlace};
-ghost use Rattle.moves.specs.Deal.{placePassed};
+ghost use Rattle.moves.specs.Does.{ring_place};
+ghost use Rattle.moves.specs.Deal.{place_passed};
 
 use rules::Ring;
 
@@ -39,7 +39,7 @@ pub(crate) struct Departed {
 // 01: "A leaving value moves first on by one, mod depth." "A recirculated value leaves and is then stored."
 pub(crate) fn pass(ring: Ring, again: bool, d: u32, memory: &mut [u32]) -> Departed
     requires { Ready d ring memory.old × (0 < ring.count) }
-    ensures { (result.value ≡ get_or memory.old ring.first 0 % valueSpan) × (result.ring ≡ (placePassed again d (ringPlace ring memory.old)).ring) × (memory.new ≡ (placePassed again d (ringPlace ring memory.old)).memory) }
+    ensures { (result.value ≡ get_or memory.old ring.first 0 % value_span) × (result.ring ≡ (place_passed again d (ring_place ring memory.old)).ring) × (memory.new ≡ (place_passed again d (ring_place ring memory.old)).memory) }
 {
     let first = ring.first as usize;
     let v = memory[first] % 131072;

@@ -9,13 +9,13 @@ use Rattle.plans.specs.declared.Act.{Act}
 use Rattle.plans.specs.declared.Act.TheVariants.{Nothing, Empties, Clocks, Loads}
 use Rattle.rules.specs.Bits.{bit}
 use Rattle.rules.specs.Clocks.{Play, clear, none, only, clock}
-use Rattle.rules.specs.Writes.{writeControl, writeMask, writeRate, writeAdjust, writeData}
+use Rattle.rules.specs.Writes.{write_control, write_mask, write_rate, write_adjust, write_data}
 
 unfoldable pub carried : Act → Core → List ℕ → Bool → Play
 carried Nothing c buf full = only c
 carried Empties c buf full = record { core = c; op = clear; moved = 0; fate = none }
 carried Clocks c buf full = clock c buf
-carried (Loads v) c buf full = writeData c full v
+carried (Loads v) c buf full = write_data c full v
 
 unfoldable pub MovesOrStores : Act → Type 0
 MovesOrStores Nothing = ⊥
@@ -31,14 +31,14 @@ pub record Within (c k : Core) : Type 0 where
 
 unfoldable pub core_of : Core → ℕ → ℕ → Core
 core_of c o v =
-    cond (eqb o 0x00) (writeControl c v).core
-    (cond (eqb o 0x04) (writeMask c v).core
-    (cond (eqb o 0x08) (writeRate c v).core
-    (writeAdjust c v).core))
+    cond (eqb o 0x00) (write_control c v).core
+    (cond (eqb o 0x04) (write_mask c v).core
+    (cond (eqb o 0x08) (write_rate c v).core
+    (write_adjust c v).core))
 
 -- of a write to 0Ch, whose core then accepts a software clock or not
-unfoldable pub bufferAct : ℕ → Bool → Act
-bufferAct v accepted = cond (bit 11 v) Empties (cond (bit 7 v && accepted) Clocks Nothing)
+unfoldable pub buffer_act : ℕ → Bool → Act
+buffer_act v accepted = cond (bit 11 v) Empties (cond (bit 7 v && accepted) Clocks Nothing)
 
-unfoldable pub clocksIf : Bool → Act
-clocksIf accepted = cond accepted Clocks Nothing
+unfoldable pub clocks_if : Bool → Act
+clocks_if accepted = cond accepted Clocks Nothing

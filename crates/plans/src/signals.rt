@@ -1,9 +1,9 @@
 // Clocks, triggers, the ends of calibration and settling: what each plans.
 ghost use Rattle.std.specs.Prelude.{◌≡◌};
-ghost use Rattle.rules.specs.Clocks.{onTrigger};
-ghost use Rattle.rules.specs.Play.{calibrationEnds, settles};
-ghost use Rattle.plans.specs.Parts.{clocksIf};
-ghost use Rattle.plans.specs.Plan.{signalPlan};
+ghost use Rattle.rules.specs.Clocks.{on_trigger};
+ghost use Rattle.rules.specs.Play.{calibration_ends, settles};
+ghost use Rattle.plans.specs.Parts.{clocks_if};
+ghost use Rattle.plans.specs.Plan.{signal_plan};
 
 use crate::choose::pick_burst;
 use crate::states::{clock_accepted, trigger_accepted};
@@ -13,7 +13,7 @@ use status::tick_accepted;
 
 // 01: "Clocks and triggers that are not accepted answer 0 and change nothing."
 pub(crate) fn clocks_if(accepted: bool) -> Act
-    ensures { result ≡ clocksIf accepted }
+    ensures { result ≡ clocks_if accepted }
 {
     if accepted {
         return Act::Clocks;
@@ -22,7 +22,7 @@ pub(crate) fn clocks_if(accepted: bool) -> Act
 }
 
 pub(crate) fn on_trigger(c: Core) -> Core
-    ensures { result ≡ (onTrigger c).core }
+    ensures { result ≡ (on_trigger c).core }
 {
     let started = Burst {
         running: true,
@@ -37,7 +37,7 @@ pub(crate) fn on_trigger(c: Core) -> Core
 
 // 01: "A calibration end clears D13, sets "calibrated" and sets D14 on failure."
 pub(crate) fn calibration_ends(c: Core, failure: bool) -> Core
-    ensures { result ≡ (calibrationEnds c failure).core }
+    ensures { result ≡ (calibration_ends c failure).core }
 {
     let failed = c.calibration.failed | failure;
     let mut k = c;
@@ -56,7 +56,7 @@ pub(crate) fn settled(c: Core) -> Core
 }
 
 pub(crate) fn on_signal(c: Core, x: Signal) -> Plan
-    ensures { result ≡ signalPlan c x }
+    ensures { result ≡ signal_plan c x }
 {
     match x {
         Signal::Tick => Plan {

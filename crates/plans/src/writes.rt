@@ -1,8 +1,8 @@
 // Writes as changes of the core, and what the write to each offset plans.
 ghost use Rattle.std.specs.Prelude.{◌≡◌};
-ghost use Rattle.plans.specs.Parts.{core_of, bufferAct};
-ghost use Rattle.plans.specs.Plan.{writePlan};
-ghost use Rattle.rules.specs.Writes.{initial, controlOf, burstOf, cursorOf, calibrationOf, writeControl, writeMask, writeRate, writeAdjust, mode_of, lostOf, loadKept, loadAsked, bufferOf};
+ghost use Rattle.plans.specs.Parts.{core_of, buffer_act};
+ghost use Rattle.plans.specs.Plan.{write_plan};
+ghost use Rattle.rules.specs.Writes.{initial, control_of, burst_of, cursor_of, calibration_of, write_control, write_mask, write_rate, write_adjust, mode_of, lost_of, load_kept, load_asked, buffer_of};
 
 use crate::choose::{pick, pick_burst, pick_load};
 use crate::states::clock_accepted;
@@ -66,7 +66,7 @@ pub(crate) fn initial(o: Options) -> Core
 
 // 01: "store D0, D3 to D10"
 pub(crate) fn control_of(v: u32) -> Control
-    ensures { result ≡ controlOf v }
+    ensures { result ≡ control_of v }
 {
     Control {
         bursts: v / 1 % 2 == 1,
@@ -81,7 +81,7 @@ pub(crate) fn control_of(v: u32) -> Control
 
 // 01: "D0 = 0 ends a burst"; "D2 = 1 with D0 set and no burst starts one"
 pub(crate) fn burst_of(v: u32, x: Burst) -> Burst
-    ensures { result ≡ burstOf v x }
+    ensures { result ≡ burst_of v x }
 {
     let none = Burst {
         running: false,
@@ -97,7 +97,7 @@ pub(crate) fn burst_of(v: u32, x: Burst) -> Burst
 
 // 01: "changed D7 sets the cursor to 0"
 pub(crate) fn cursor_of(was: bool, is: bool, n: u32) -> u32
-    ensures { result ≡ cursorOf was is n }
+    ensures { result ≡ cursor_of was is n }
 {
     if was {
         return pick(is, n, 0);
@@ -107,7 +107,7 @@ pub(crate) fn cursor_of(was: bool, is: bool, n: u32) -> u32
 
 // 01: "D13 = 1 starts calibration, clearing D14 and "calibrated""
 pub(crate) fn calibration_of(v: u32, x: Calibration) -> Calibration
-    ensures { result ≡ calibrationOf v x }
+    ensures { result ≡ calibration_of v x }
 {
     if v / 8192 % 2 == 1 {
         return Calibration {
@@ -120,7 +120,7 @@ pub(crate) fn calibration_of(v: u32, x: Calibration) -> Calibration
 }
 
 pub(crate) fn write_control(c: Core, v: u32) -> Core
-    ensures { result ≡ (writeControl c v).core }
+    ensures { result ≡ (write_control c v).core }
 {
     let burst = c.burst;
     let calibration = c.calibration;
@@ -138,7 +138,7 @@ pub(crate) fn write_control(c: Core, v: u32) -> Core
 
 // 01: "04h keeps the bits of fitted channels and sets the cursor to 0."
 pub(crate) fn write_mask(c: Core, v: u32) -> Core
-    ensures { result ≡ (writeMask c v).core }
+    ensures { result ≡ (write_mask c v).core }
 {
     let limit = mask_limit(c.options.kit);
     let mask = v % limit;
@@ -150,7 +150,7 @@ pub(crate) fn write_mask(c: Core, v: u32) -> Core
 
 // 01: "08h keeps 16 bits."
 pub(crate) fn write_rate(c: Core, v: u32) -> Core
-    ensures { result ≡ (writeRate c v).core }
+    ensures { result ≡ (write_rate c v).core }
 {
     let divisor = v % 65536;
     let mut k = c;
@@ -160,7 +160,7 @@ pub(crate) fn write_rate(c: Core, v: u32) -> Core
 
 // 01: "1Ch keeps Nclk (D8..0) and ALT (D9); a changed Nclk with EXTERNAL CLOCK set starts settling"
 pub(crate) fn write_adjust(c: Core, v: u32) -> Core
-    ensures { result ≡ (writeAdjust c v).core }
+    ensures { result ≡ (write_adjust c v).core }
 {
     let nclk = v % 512;
     let alt = v / 512 % 2 == 1;
@@ -184,7 +184,7 @@ pub(crate) fn mode_of(v: u32) -> Mode
 
 // 01: "D16, D17 = 0 clear those flags, 1 leaves them"
 pub(crate) fn lost_of(v: u32, x: Lost) -> Lost
-    ensures { result ≡ lostOf v x }
+    ensures { result ≡ lost_of v x }
 {
     Lost {
         full: x.full & (v / 65536 % 2 == 1),
@@ -194,7 +194,7 @@ pub(crate) fn lost_of(v: u32, x: Lost) -> Lost
 
 // 01: "D8 = 0 drops pending and opened; D11 = 1 .. drops pending and opened"
 pub(crate) fn load_kept(v: u32, x: Load) -> Load
-    ensures { result ≡ loadKept v x }
+    ensures { result ≡ load_kept v x }
 {
     let none = Load {
         pending: false,
@@ -205,7 +205,7 @@ pub(crate) fn load_kept(v: u32, x: Load) -> Load
 
 // 01: "if circular and not opened, pending = D9"
 pub(crate) fn load_asked(v: u32, x: Load) -> Load
-    ensures { result ≡ loadAsked v x }
+    ensures { result ≡ load_asked v x }
 {
     let asked = Load {
         pending: v / 512 % 2 == 1,
@@ -216,7 +216,7 @@ pub(crate) fn load_asked(v: u32, x: Load) -> Load
 
 // The core of a BOR write when its software clock is tried.
 pub(crate) fn buffer_of(v: u32, c: Core) -> Core
-    ensures { result ≡ bufferOf v c }
+    ensures { result ≡ buffer_of v c }
 {
     let clears = v / 2048 % 2 == 1;
     let none = Burst {
@@ -259,7 +259,7 @@ pub(crate) fn write_core(c: Core, o: u32, v: u32) -> Core
 
 // 01: "D11 = 1 empties"; "D7 = 1 tries a software clock"
 pub(crate) fn buffer_act(v: u32, accepted: bool) -> Act
-    ensures { result ≡ bufferAct v accepted }
+    ensures { result ≡ buffer_act v accepted }
 {
     if v / 2048 % 2 == 1 {
         return Act::Empties;
@@ -272,7 +272,7 @@ pub(crate) fn buffer_act(v: u32, accepted: bool) -> Act
 
 // A write to any offset that takes one.
 pub(crate) fn on_write(c: Core, o: u32, v: u32) -> Plan
-    ensures { result ≡ writePlan c o v }
+    ensures { result ≡ write_plan c o v }
 {
     if o == 12 {
         let k = buffer_of(v, c);

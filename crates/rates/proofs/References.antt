@@ -9,7 +9,7 @@ use native.Mathlib.Omega.{arith}
 use borrow.Author.Tests.{eqb-true}
 use lib.Dec.{eqb}
 use lib.ListN.{length, get_or}
-use Rattle.rules.specs.Rates.{referenceOf}
+use Rattle.rules.specs.Rates.{reference_of}
 use Rattle.rules.proofs.Choice.{and_both}
 
 -- the test passes at each entry and its place, counted from i
@@ -71,8 +71,8 @@ references =
     31405088 ∷ 31436399 ∷ 31467710 ∷ 31499021 ∷ 31530332 ∷ 31561643 ∷ 31592954 ∷ 31624266 ∷ 31655577 ∷ 31686888 ∷ 31718199 ∷ 31749510 ∷
     31780821 ∷ 31812133 ∷ 31843444 ∷ 31874755 ∷ 31906066 ∷ 31937377 ∷ 31968688 ∷ 32000000 ∷ []
 
-pub reference-at : (k : ℕ) → k ≤ 511 → get_or references k 0 ≡ referenceOf k
-unfolding references every referenceOf
-reference-at k h =
+pub reference_at : (k : ℕ) → k ≤ 511 → get_or references k 0 ≡ reference_of k
+unfolding references every reference_of
+reference_at k h =
     let l : length references ≡ 512 = refl in
-    eqb-true _ _ (subst (λ (m : ℕ). eqb (get_or references k 0) (referenceOf m) ≡ true) (zero-add k) (from (λ i x. eqb x (referenceOf i)) references 0 refl k (omega (arith, l))))
+    eqb-true _ _ (subst (λ (m : ℕ). eqb (get_or references k 0) (reference_of m) ≡ true) (zero-add k) (from (λ i x. eqb x (reference_of i)) references 0 refl k (omega (arith, l))))

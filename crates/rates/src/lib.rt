@@ -1,6 +1,6 @@
 // The rate question: the 512 reference frequencies in a table, and the figures of a board record.
 ghost use Rattle.std.specs.Prelude.{◌≤◌, ◌<◌, ◌≡◌};
-ghost use Rattle.rules.specs.Rates.{referenceOf, wholeReference, sampleRate, rates};
+ghost use Rattle.rules.specs.Rates.{reference_of, whole_reference, sample_rate, rates};
 ghost use Rattle.rules.specs.Told.{Told};
 
 use rules::{Board, Clock, Figures};
@@ -69,7 +69,7 @@ const REFERENCE: [u32; 512] = [
 
 fn reference(nclk: u32) -> u32
     requires { nclk ≤ 511 }
-    ensures { result ≡ referenceOf nclk }
+    ensures { result ≡ reference_of nclk }
 {
     let at = nclk as usize;
     REFERENCE[at]
@@ -78,7 +78,7 @@ fn reference(nclk: u32) -> u32
 // 01: "(30,000,000 Hz if ALT = 0)"
 fn whole_reference(k: Clock) -> u32
     requires { k.nclk ≤ 511 }
-    ensures { result ≡ wholeReference k }
+    ensures { result ≡ whole_reference k }
 {
     if k.alt {
         return reference(k.nclk);
@@ -89,7 +89,7 @@ fn whole_reference(k: Clock) -> u32
 // 01: "The sample rate is the exact reference .. over the divisor, rounded down once.", so in 64 bits
 fn sample_rate(k: Clock) -> u32
     requires { (k.nclk ≤ 511) × (0 < k.divisor) }
-    ensures { result ≡ sampleRate k }
+    ensures { result ≡ sample_rate k }
 {
     if k.alt {
         let hertz = 16000000 * (511 + k.nclk as u64);

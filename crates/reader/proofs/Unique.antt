@@ -2,8 +2,8 @@
 use mathlib.Core.Path.{sym, ◌∙◌}
 use Rattle.reader.specs.Unique.{Opened-unique}
 
-pub opened-unique : Opened-unique
-opened-unique bytes place r r' p q =
+pub opened_unique : Opened-unique
+opened_unique bytes place r r' p q =
     let same = p.bytes ∙ sym q.bytes in
     let there = p.place ∙ sym q.place in
     λ i. record { bytes = same i; place = there i }

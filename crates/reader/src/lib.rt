@@ -2,7 +2,7 @@
 // function; `read_at` stands above, with plain parameters, and is what `next` of crate `run` calls for every record.
 ghost use Rattle.rules.specs.ToldInNumbers.{ToldInNumbers};
 ghost use Rattle.file_rules.specs.File.{item_at};
-ghost use Rattle.file_rules.specs.Numbers.{itemNumbers};
+ghost use Rattle.file_rules.specs.Numbers.{item_numbers};
 ghost use Rattle.reader.specs.Promises.{Opened};
 
 use file_rules::Item;
@@ -23,14 +23,14 @@ pub fn open<'a>(bytes: &'a [u8], place: usize) -> Reader<'a>
 
 // The record at the reader's place.
 pub fn item<'a>(r: Reader<'a>) -> Item
-    ensures { ToldInNumbers itemNumbers (item_at r.entry.bytes.now r.entry.place) result }
+    ensures { ToldInNumbers item_numbers (item_at r.entry.bytes.now r.entry.place) result }
 {
     item_at(r.bytes, r.place)
 }
 
 // The record at a place of these bytes.
 pub fn read_at(s: &[u8], at: usize) -> Item
-    ensures { ToldInNumbers itemNumbers (item_at s.now at) result }
+    ensures { ToldInNumbers item_numbers (item_at s.now at) result }
 {
     item(open(s, at))
 }

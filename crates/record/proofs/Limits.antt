@@ -7,9 +7,9 @@ use Rattle.rules.specs.Record.{channels}
 use Rattle.rules.specs.Told.{Told}
 use Rattle.rules.proofs.Choice.{either}
 
-channels-least : (kit : ℕ) → 6 ≤ channels kit
+channels_least : (kit : ℕ) → 6 ≤ channels kit
 unfolding channels
-channels-least kit = either (λ (n : ℕ). 6 ≤ n) (eqb kit 0) (omega arith) (either (λ (n : ℕ). 6 ≤ n) (eqb kit 1) (omega arith) (omega arith))
+channels_least kit = either (λ (n : ℕ). 6 ≤ n) (eqb kit 0) (omega arith) (either (λ (n : ℕ). 6 ≤ n) (eqb kit 1) (omega arith) (omega arith))
 
-pub limit-least : (kit r : ℕ) → Told (2 ^ channels kit) r → 64 ≤ r
-limit-least kit r p = let h : 2 ^ 6 ≤ 2 ^ channels kit = pow_mono (channels-least kit) in omega (arith, p.told)
+pub limit_least : (kit r : ℕ) → Told (2 ^ channels kit) r → 64 ≤ r
+limit_least kit r p = let h : 2 ^ 6 ≤ 2 ^ channels kit = pow_mono (channels_least kit) in omega (arith, p.told)

@@ -1,9 +1,9 @@
 // A board record by itself: which settings are in range, the unpowered record, its depth, and the mask of its kit.
 // Every call takes every input, and tells what a rule says (`Told` of rules/specs/Told.antt).
 ghost use Rattle.std.specs.Prelude.{◌^◌, min};
-ghost use Rattle.rules.specs.Record.{fittedInRange, codeInRange, firmwareInRange, depth_of, depth, channels, unpowered};
+ghost use Rattle.rules.specs.Record.{fitted_in_range, code_in_range, firmware_in_range, depth_of, depth, channels, unpowered};
 ghost use Rattle.rules.specs.Told.{Told};
-ghost use Rattle.record.specs.Capped.{cappedBoard};
+ghost use Rattle.record.specs.Capped.{capped_board};
 
 use rules::{
     Board, Burst, Calibration, Clock, Control, Core, Load, Lost, Mode, Options, Outputs, Ring, Size,
@@ -76,19 +76,19 @@ pub fn unpowered() -> Board
 
 // 01: "a fitted code d (0 to 15), range, filter and kit codes (0 to 2) and a firmware number (0 to 4095)"
 pub fn fitted_in_range(d: u32) -> bool
-    ensures { Told (fittedInRange d) result }
+    ensures { Told (fitted_in_range d) result }
 {
     d <= 15
 }
 
 pub fn code_in_range(n: u32) -> bool
-    ensures { Told (codeInRange n) result }
+    ensures { Told (code_in_range n) result }
 {
     n <= 2
 }
 
 pub fn firmware_in_range(n: u32) -> bool
-    ensures { Told (firmwareInRange n) result }
+    ensures { Told (firmware_in_range n) result }
 {
     n <= 4095
 }
@@ -105,7 +105,7 @@ pub fn depth_of(d: u32) -> u32
 
 // The depth of a record.
 pub fn depth(b: Board) -> u32
-    ensures { Told (depth (cappedBoard b)) result }
+    ensures { Told (depth (capped_board b)) result }
 {
     depth_of(b.size.fitted)
 }

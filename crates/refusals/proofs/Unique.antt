@@ -4,7 +4,7 @@ use mathlib.Core.Path.{sym, ◌∙◌}
 use lib.ListN.{replicate, length-replicate}
 use Rattle.refusals.specs.Unique.{RefusalTold-unique}
 
-pub refusal-told-unique : RefusalTold-unique
-refusal-told-unique b len e r r' p q =
+pub refusal_told_unique : RefusalTold-unique
+refusal_told_unique b len e r r' p q =
     let long = length-replicate {A = ℕ} len 0 in
     p.told (replicate len 0) long ∙ sym (q.told (replicate len 0) long)

@@ -1,8 +1,8 @@
 // The two registers that are read bit by bit, D00 first.
 ghost use Rattle.std.specs.Prelude.{◌≡◌};
 ghost use Rattle.rules.specs.Bits.{flag, number};
-ghost use Rattle.rules.specs.Registers.{readAt};
-ghost use Rattle.record.specs.Capped.{cappedBoard};
+ghost use Rattle.rules.specs.Registers.{read_at};
+ghost use Rattle.record.specs.Capped.{capped_board};
 
 use rules::Board;
 use status::{active_size, burst_ready, clock_ready, closed, is_empty, is_full, is_high, is_low};
@@ -31,7 +31,7 @@ pub(crate) fn number_of(bits: [bool; 18]) -> u32
 
 // 00h
 pub(crate) fn read_control(b: Board) -> u32
-    ensures { result ≡ readAt (cappedBoard b) 0x00 }
+    ensures { result ≡ read_at (capped_board b) 0x00 }
 {
     let c = b.core;
     let s = c.control.selection;
@@ -59,7 +59,7 @@ pub(crate) fn read_control(b: Board) -> u32
 
 // 0Ch
 pub(crate) fn read_buffer(b: Board) -> u32
-    ensures { result ≡ readAt (cappedBoard b) 0x0C }
+    ensures { result ≡ read_at (capped_board b) 0x0C }
 {
     let c = b.core;
     let n = b.ring.count;

@@ -1,13 +1,13 @@
 // The registers that are read field by field.
 ghost use Rattle.std.specs.Prelude.{◌≢◌, ◌≡◌};
-ghost use Rattle.rules.specs.Registers.{readAt};
-ghost use Rattle.record.specs.Capped.{cappedBoard};
+ghost use Rattle.rules.specs.Registers.{read_at};
+ghost use Rattle.record.specs.Capped.{capped_board};
 
 use rules::Board;
 
 // 10h
 pub(crate) fn read_options(b: Board) -> u32
-    ensures { result ≡ readAt (cappedBoard b) 0x10 }
+    ensures { result ≡ read_at (capped_board b) 0x10 }
 {
     let o = b.core.options;
     o.firmware % 4096 + 65536 * (o.range % 4) + 262144 * (o.filter % 4) + 1048576 * (o.kit % 4)
@@ -15,7 +15,7 @@ pub(crate) fn read_options(b: Board) -> u32
 
 // 1Ch
 pub(crate) fn read_adjust(b: Board) -> u32
-    ensures { result ≡ readAt (cappedBoard b) 0x1C }
+    ensures { result ≡ read_at (capped_board b) 0x1C }
 {
     let k = b.core.clock;
     if k.alt {
@@ -26,7 +26,7 @@ pub(crate) fn read_adjust(b: Board) -> u32
 
 // The registers but the two that are bit by bit.
 pub(crate) fn read_fields(b: Board, o: u32) -> u32
-    ensures { o ≢ 0x00 → o ≢ 0x0C → result ≡ readAt (cappedBoard b) o }
+    ensures { o ≢ 0x00 → o ≢ 0x0C → result ≡ read_at (capped_board b) o }
 {
     if o == 4 {
         return b.core.outputs.mask % 1048576;

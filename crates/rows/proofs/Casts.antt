@@ -4,7 +4,7 @@ use mathlib.Core.Bool.{Bool, true, false}
 use mir.Val.{bool_byte}
 use Rattle.rules.specs.Bits.{flag}
 
-pub flag-cast : (t : Bool) → bool_byte t ≡ flag t
+pub flag_cast : (t : Bool) → bool_byte t ≡ flag t
 unfolding flag
-flag-cast true = refl
-flag-cast false = refl
+flag_cast true = refl
+flag_cast false = refl

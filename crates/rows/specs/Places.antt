@@ -1,6 +1,6 @@
 -- The places of a row of 55 numbers, in its order, each with the name of its field; `running` is a field of two parts, and has their
 -- names too.
---   rowLong   how many numbers a row has
+--   row_long   how many numbers a row has
 use Rattle.std.specs.Prelude.{ℕ}
 
 abbrev pub powered : ℕ
@@ -64,8 +64,8 @@ circular = 16
 
 -- ---- calibration
 
-abbrev pub calibrationRunning : ℕ
-calibrationRunning = 17
+abbrev pub calibration_running : ℕ
+calibration_running = 17
 
 abbrev pub failed : ℕ
 failed = 18
@@ -89,8 +89,8 @@ settling = 23
 
 -- ---- burst
 
-abbrev pub burstRunning : ℕ
-burstRunning = 24
+abbrev pub burst_running : ℕ
+burst_running = 24
 
 abbrev pub software : ℕ
 software = 25
@@ -137,10 +137,10 @@ count = 34
 abbrev pub levels : ℕ
 levels = 35
 
-abbrev pub levelCount : ℕ
-levelCount = 20
+abbrev pub level_count : ℕ
+level_count = 20
 
 -- ---- The whole
 
-abbrev pub rowLong : ℕ
-rowLong = 55
+abbrev pub row_long : ℕ
+row_long = 55

@@ -1,5 +1,5 @@
 -- A board record read from a row: each field from its place (Places.antt). Any number but 0 is true, and a level is taken modulo 10000h.
---   boardAt row   the record that a row says
+--   board_at row   the record that a row says
 use Rattle.std.specs.Prelude.{ℕ, ◌%◌, Bool, not, List, map, eqb, get_or, take, drop}
 use Rattle.rules.specs.declared.Options.{Options}
 use Rattle.rules.specs.declared.Size.{Size}
@@ -12,76 +12,76 @@ use Rattle.rules.specs.declared.Load.{Load}
 use Rattle.rules.specs.declared.Lost.{Lost}
 use Rattle.rules.specs.declared.Core.{Core}
 use Rattle.rules.specs.declared.Board.{Board}
-use Rattle.rules.specs.Record.{levelSpan}
+use Rattle.rules.specs.Record.{level_span}
 use Rattle.rows.specs.Places as places
 
 abbrev pub at : List ℕ → ℕ → ℕ
 at row i = get_or row i 0
 
-abbrev pub isOn : List ℕ → ℕ → Bool
-isOn row i = not (eqb (at row i) 0)
+abbrev pub is_on : List ℕ → ℕ → Bool
+is_on row i = not (eqb (at row i) 0)
 
 -- ---- Part by part
 
-abbrev pub optionsAt : List ℕ → Options
-optionsAt row = record { range = at row places.range; filter = at row places.filter; kit = at row places.kit; firmware = at row places.firmware }
+abbrev pub options_at : List ℕ → Options
+options_at row = record { range = at row places.range; filter = at row places.filter; kit = at row places.kit; firmware = at row places.firmware }
 
 abbrev pub size_at : List ℕ → Size
 size_at row = record { fitted = at row places.fitted; code = at row places.code }
 
-abbrev pub controlAt : List ℕ → Control
-controlAt row =
+abbrev pub control_at : List ℕ → Control
+control_at row =
     record {
-      bursts = isOn row places.bursts;
-      ground = isOn row places.ground;
-      binary = isOn row places.binary;
-      differential = isOn row places.differential;
-      barred = isOn row places.barred;
-      simultaneous = isOn row places.simultaneous;
+      bursts = is_on row places.bursts;
+      ground = is_on row places.ground;
+      binary = is_on row places.binary;
+      differential = is_on row places.differential;
+      barred = is_on row places.barred;
+      simultaneous = is_on row places.simultaneous;
       selection = at row places.selection;
     }
 
-abbrev pub modeAt : List ℕ → Mode
-modeAt row = record { external = isOn row places.external; enabled = isOn row places.enabled; circular = isOn row places.circular }
+abbrev pub mode_at : List ℕ → Mode
+mode_at row = record { external = is_on row places.external; enabled = is_on row places.enabled; circular = is_on row places.circular }
 
-abbrev pub calibrationAt : List ℕ → Calibration
-calibrationAt row = record { running = isOn row places.calibrationRunning; failed = isOn row places.failed; calibrated = isOn row places.calibrated }
+abbrev pub calibration_at : List ℕ → Calibration
+calibration_at row = record { running = is_on row places.calibration_running; failed = is_on row places.failed; calibrated = is_on row places.calibrated }
 
-abbrev pub clockAt : List ℕ → Clock
-clockAt row = record { divisor = at row places.divisor; nclk = at row places.nclk; alt = isOn row places.alt; settling = isOn row places.settling }
+abbrev pub clock_at : List ℕ → Clock
+clock_at row = record { divisor = at row places.divisor; nclk = at row places.nclk; alt = is_on row places.alt; settling = is_on row places.settling }
 
-abbrev pub burstAt : List ℕ → Burst
-burstAt row = record { running = isOn row places.burstRunning; software = isOn row places.software }
+abbrev pub burst_at : List ℕ → Burst
+burst_at row = record { running = is_on row places.burst_running; software = is_on row places.software }
 
-abbrev pub loadAt : List ℕ → Load
-loadAt row = record { pending = isOn row places.pending; opened = isOn row places.opened }
+abbrev pub load_at : List ℕ → Load
+load_at row = record { pending = is_on row places.pending; opened = is_on row places.opened }
 
-abbrev pub lostAt : List ℕ → Lost
-lostAt row = record { full = isOn row places.full; closed = isOn row places.closed }
+abbrev pub lost_at : List ℕ → Lost
+lost_at row = record { full = is_on row places.full; closed = is_on row places.closed }
 
-unfoldable pub levelsAt : List ℕ → List ℕ
-levelsAt row = map (λ (x : ℕ). x % levelSpan) (take places.levelCount (drop places.levels row))
+unfoldable pub levels_at : List ℕ → List ℕ
+levels_at row = map (λ (x : ℕ). x % level_span) (take places.level_count (drop places.levels row))
 
-unfoldable pub coreAt : List ℕ → Core
-coreAt row =
+unfoldable pub core_at : List ℕ → Core
+core_at row =
     record {
-      powered = isOn row places.powered;
-      options = optionsAt row;
-      control = controlAt row;
-      mode = modeAt row;
-      calibration = calibrationAt row;
-      clock = clockAt row;
-      burst = burstAt row;
-      load = loadAt row;
-      lost = lostAt row;
-      outputs = record { mask = at row places.mask; cursor = at row places.cursor; levels = levelsAt row };
+      powered = is_on row places.powered;
+      options = options_at row;
+      control = control_at row;
+      mode = mode_at row;
+      calibration = calibration_at row;
+      clock = clock_at row;
+      burst = burst_at row;
+      load = load_at row;
+      lost = lost_at row;
+      outputs = record { mask = at row places.mask; cursor = at row places.cursor; levels = levels_at row };
     }
 
-unfoldable pub boardAt : List ℕ → Board
-boardAt row =
+unfoldable pub board_at : List ℕ → Board
+board_at row =
     record {
-      core = coreAt row;
+      core = core_at row;
       size = size_at row;
-      request = isOn row places.request;
+      request = is_on row places.request;
       ring = record { first = at row places.first; count = at row places.count };
     }

@@ -1,6 +1,6 @@
 -- A board record written to a row: its fields in the order of their places, part by part, and the levels last; `Round-trip` (Laws.antt)
 -- holds this order to Places.antt. A bool is 0 or 1.
---   boardRow b   the row of a record
+--   board_row b   the row of a record
 use Rattle.std.specs.Prelude.{ℕ, Bool, List, [], ◌∷◌, ◌++◌}
 use Rattle.rules.specs.declared.Options.{Options}
 use Rattle.rules.specs.declared.Size.{Size}
@@ -16,29 +16,29 @@ use Rattle.rules.specs.declared.Ring.{Ring}
 use Rattle.rules.specs.declared.Board.{Board}
 use Rattle.rules.specs.Bits.{flag}
 
-abbrev pub headRow : Bool → Options → Size → List ℕ
-headRow powered o s = flag powered ∷ o.range ∷ o.filter ∷ o.kit ∷ o.firmware ∷ s.fitted ∷ s.code ∷ []
+abbrev pub head_row : Bool → Options → Size → List ℕ
+head_row powered o s = flag powered ∷ o.range ∷ o.filter ∷ o.kit ∷ o.firmware ∷ s.fitted ∷ s.code ∷ []
 
-abbrev pub controlRow : Control → List ℕ
-controlRow c =
+abbrev pub control_row : Control → List ℕ
+control_row c =
     flag c.bursts ∷ flag c.ground ∷ flag c.binary ∷ flag c.differential ∷ flag c.barred
     ∷ flag c.simultaneous ∷ c.selection ∷ []
 
-abbrev pub modesRow : Mode → Calibration → List ℕ
-modesRow m c =
+abbrev pub modes_row : Mode → Calibration → List ℕ
+modes_row m c =
     flag m.external ∷ flag m.enabled ∷ flag m.circular
     ∷ flag c.running ∷ flag c.failed ∷ flag c.calibrated ∷ []
 
-abbrev pub clockRow : Clock → Burst → Load → Lost → List ℕ
-clockRow c b l o =
+abbrev pub clock_row : Clock → Burst → Load → Lost → List ℕ
+clock_row c b l o =
     c.divisor ∷ c.nclk ∷ flag c.alt ∷ flag c.settling ∷ flag b.running ∷ flag b.software
     ∷ flag l.pending ∷ flag l.opened ∷ flag o.full ∷ flag o.closed ∷ []
 
-abbrev pub ringRow : Outputs → Bool → Ring → List ℕ
-ringRow o request r = o.mask ∷ o.cursor ∷ flag request ∷ r.first ∷ r.count ∷ []
+abbrev pub ring_row : Outputs → Bool → Ring → List ℕ
+ring_row o request r = o.mask ∷ o.cursor ∷ flag request ∷ r.first ∷ r.count ∷ []
 
-unfoldable pub boardRow : Board → List ℕ
-boardRow b =
+unfoldable pub board_row : Board → List ℕ
+board_row b =
     let c = b.core in
-    headRow c.powered c.options b.size ++ controlRow c.control ++ modesRow c.mode c.calibration
-    ++ clockRow c.clock c.burst c.load c.lost ++ ringRow c.outputs b.request b.ring ++ c.outputs.levels
+    head_row c.powered c.options b.size ++ control_row c.control ++ modes_row c.mode c.calibration
+    ++ clock_row c.clock c.burst c.load c.lost ++ ring_row c.outputs b.request b.ring ++ c.outputs.levels

@@ -1,6 +1,6 @@
 // A board record as a row of 55 numbers, for hosts in other languages: read from one, and written to one.
 ghost use Rattle.rules.specs.Told.{Told};
-ghost use Rattle.rows.specs.Promises.{toldOf, Put};
+ghost use Rattle.rows.specs.Promises.{told_of, Put};
 
 pub use crate::places::ROW_LONG;
 use crate::reading::board_in;
@@ -13,7 +13,7 @@ mod writing;
 
 // A row of another length is not understood, and reads as a row of zeros does: as the unpowered record.
 pub fn board_at(row: &[u32]) -> Board
-    ensures { Told (toldOf row.now) result }
+    ensures { Told (told_of row.now) result }
 {
     if row.len() == ROW_LONG {
         return board_in(row);

@@ -1,7 +1,7 @@
 // A board record read from a row, part by part: each field from its place.
 ghost use Rattle.std.specs.Prelude.{◌≡◌, length};
-ghost use Rattle.rows.specs.Places.{rowLong};
-ghost use Rattle.rows.specs.Reading.{optionsAt, size_at, controlAt, modeAt, calibrationAt, clockAt, burstAt, loadAt, lostAt, levelsAt, coreAt, boardAt};
+ghost use Rattle.rows.specs.Places.{row_long};
+ghost use Rattle.rows.specs.Reading.{options_at, size_at, control_at, mode_at, calibration_at, clock_at, burst_at, load_at, lost_at, levels_at, core_at, board_at};
 
 use crate::places;
 use rules::{
@@ -9,8 +9,8 @@ use rules::{
 };
 
 fn options_at(row: &[u32]) -> Options
-    requires { length row.now ≡ rowLong }
-    ensures { result ≡ optionsAt row.now }
+    requires { length row.now ≡ row_long }
+    ensures { result ≡ options_at row.now }
 {
     Options {
         range: row[places::RANGE],
@@ -21,7 +21,7 @@ fn options_at(row: &[u32]) -> Options
 }
 
 fn size_at(row: &[u32]) -> Size
-    requires { length row.now ≡ rowLong }
+    requires { length row.now ≡ row_long }
     ensures { result ≡ size_at row.now }
 {
     Size {
@@ -31,8 +31,8 @@ fn size_at(row: &[u32]) -> Size
 }
 
 fn control_at(row: &[u32]) -> Control
-    requires { length row.now ≡ rowLong }
-    ensures { result ≡ controlAt row.now }
+    requires { length row.now ≡ row_long }
+    ensures { result ≡ control_at row.now }
 {
     Control {
         bursts: row[places::BURSTS] != 0,
@@ -46,8 +46,8 @@ fn control_at(row: &[u32]) -> Control
 }
 
 fn mode_at(row: &[u32]) -> Mode
-    requires { length row.now ≡ rowLong }
-    ensures { result ≡ modeAt row.now }
+    requires { length row.now ≡ row_long }
+    ensures { result ≡ mode_at row.now }
 {
     Mode {
         external: row[places::EXTERNAL] != 0,
@@ -57,8 +57,8 @@ fn mode_at(row: &[u32]) -> Mode
 }
 
 fn calibration_at(row: &[u32]) -> Calibration
-    requires { length row.now ≡ rowLong }
-    ensures { result ≡ calibrationAt row.now }
+    requires { length row.now ≡ row_long }
+    ensures { result ≡ calibration_at row.now }
 {
     Calibration {
         running: row[places::CALIBRATION_RUNNING] != 0,
@@ -68,8 +68,8 @@ fn calibration_at(row: &[u32]) -> Calibration
 }
 
 fn clock_at(row: &[u32]) -> Clock
-    requires { length row.now ≡ rowLong }
-    ensures { result ≡ clockAt row.now }
+    requires { length row.now ≡ row_long }
+    ensures { result ≡ clock_at row.now }
 {
     Clock {
         divisor: row[places::DIVISOR],
@@ -80,8 +80,8 @@ fn clock_at(row: &[u32]) -> Clock
 }
 
 fn burst_at(row: &[u32]) -> Burst
-    requires { length row.now ≡ rowLong }
-    ensures { result ≡ burstAt row.now }
+    requires { length row.now ≡ row_long }
+    ensures { result ≡ burst_at row.now }
 {
     Burst {
         running: row[places::BURST_RUNNING] != 0,
@@ -90,8 +90,8 @@ fn burst_at(row: &[u32]) -> Burst
 }
 
 fn load_at(row: &[u32]) -> Load
-    requires { length row.now ≡ rowLong }
-    ensures { result ≡ loadAt row.now }
+    requires { length row.now ≡ row_long }
+    ensures { result ≡ load_at row.now }
 {
     Load {
         pending: row[places::PENDING] != 0,
@@ -100,8 +100,8 @@ fn load_at(row: &[u32]) -> Load
 }
 
 fn lost_at(row: &[u32]) -> Lost
-    requires { length row.now ≡ rowLong }
-    ensures { result ≡ lostAt row.now }
+    requires { length row.now ≡ row_long }
+    ensures { result ≡ lost_at row.now }
 {
     Lost {
         full: row[places::FULL] != 0,
@@ -110,8 +110,8 @@ fn lost_at(row: &[u32]) -> Lost
 }
 
 fn levels_at(row: &[u32]) -> [u16; places::LEVEL_COUNT]
-    requires { length row.now ≡ rowLong }
-    ensures { result ≡ levelsAt row.now }
+    requires { length row.now ≡ row_long }
+    ensures { result ≡ levels_at row.now }
 {
     let mut levels = [0u16; places::LEVEL_COUNT];
     let mut i: usize = 0;
@@ -123,8 +123,8 @@ fn levels_at(row: &[u32]) -> [u16; places::LEVEL_COUNT]
 }
 
 fn core_at(row: &[u32]) -> Core
-    requires { length row.now ≡ rowLong }
-    ensures { result ≡ coreAt row.now }
+    requires { length row.now ≡ row_long }
+    ensures { result ≡ core_at row.now }
 {
     Core {
         powered: row[places::POWERED] != 0,
@@ -145,8 +145,8 @@ fn core_at(row: &[u32]) -> Core
 }
 
 pub(crate) fn board_in(row: &[u32]) -> Board
-    requires { length row.now ≡ rowLong }
-    ensures { result ≡ boardAt row.now }
+    requires { length row.now ≡ row_long }
+    ensures { result ≡ board_at row.now }
 {
     Board {
         core: core_at(row),

@@ -2,7 +2,7 @@
 ghost use Rattle.std.specs.Prelude.{◌≡◌, length};
 ghost use Rattle.std.proofs.lemmas.List.Edits.{sets};
 ghost use Rattle.rows.specs.Places as places;
-ghost use Rattle.rows.specs.Writing.{headRow, controlRow, modesRow, clockRow, ringRow, boardRow};
+ghost use Rattle.rows.specs.Writing.{head_row, control_row, modes_row, clock_row, ring_row, board_row};
 
 use crate::places;
 use rules::{
@@ -16,8 +16,8 @@ fn wide(x: u16) -> u32
 }
 
 fn put_levels(o: Outputs, row: &mut [u32])
-    requires { length row.old ≡ places.rowLong }
-    ensures { (length o.levels ≡ places.levelCount) × (row.new ≡ sets row.old places.levels o.levels) }
+    requires { length row.old ≡ places.row_long }
+    ensures { (length o.levels ≡ places.level_count) × (row.new ≡ sets row.old places.levels o.levels) }
 {
     let levels = o.levels;
     let mut i: usize = 0;
@@ -28,8 +28,8 @@ fn put_levels(o: Outputs, row: &mut [u32])
 }
 
 fn put_head(powered: bool, o: Options, s: Size, row: &mut [u32])
-    requires { length row.old ≡ places.rowLong }
-    ensures { row.new ≡ sets row.old places.powered (headRow powered o s) }
+    requires { length row.old ≡ places.row_long }
+    ensures { row.new ≡ sets row.old places.powered (head_row powered o s) }
 {
     row[places::POWERED] = powered as u32;
     row[places::RANGE] = o.range;
@@ -41,8 +41,8 @@ fn put_head(powered: bool, o: Options, s: Size, row: &mut [u32])
 }
 
 fn put_control(c: Control, row: &mut [u32])
-    requires { length row.old ≡ places.rowLong }
-    ensures { row.new ≡ sets row.old places.bursts (controlRow c) }
+    requires { length row.old ≡ places.row_long }
+    ensures { row.new ≡ sets row.old places.bursts (control_row c) }
 {
     row[places::BURSTS] = c.bursts as u32;
     row[places::GROUND] = c.ground as u32;
@@ -54,8 +54,8 @@ fn put_control(c: Control, row: &mut [u32])
 }
 
 fn put_modes(m: Mode, c: Calibration, row: &mut [u32])
-    requires { length row.old ≡ places.rowLong }
-    ensures { row.new ≡ sets row.old places.external (modesRow m c) }
+    requires { length row.old ≡ places.row_long }
+    ensures { row.new ≡ sets row.old places.external (modes_row m c) }
 {
     row[places::EXTERNAL] = m.external as u32;
     row[places::ENABLED] = m.enabled as u32;
@@ -66,8 +66,8 @@ fn put_modes(m: Mode, c: Calibration, row: &mut [u32])
 }
 
 fn put_clock(c: Clock, b: Burst, l: Load, o: Lost, row: &mut [u32])
-    requires { length row.old ≡ places.rowLong }
-    ensures { row.new ≡ sets row.old places.divisor (clockRow c b l o) }
+    requires { length row.old ≡ places.row_long }
+    ensures { row.new ≡ sets row.old places.divisor (clock_row c b l o) }
 {
     row[places::DIVISOR] = c.divisor;
     row[places::NCLK] = c.nclk;
@@ -82,8 +82,8 @@ fn put_clock(c: Clock, b: Burst, l: Load, o: Lost, row: &mut [u32])
 }
 
 fn put_ring(o: Outputs, request: bool, r: Ring, row: &mut [u32])
-    requires { length row.old ≡ places.rowLong }
-    ensures { row.new ≡ sets row.old places.mask (ringRow o request r) }
+    requires { length row.old ≡ places.row_long }
+    ensures { row.new ≡ sets row.old places.mask (ring_row o request r) }
 {
     row[places::MASK] = o.mask;
     row[places::CURSOR] = o.cursor;
@@ -93,8 +93,8 @@ fn put_ring(o: Outputs, request: bool, r: Ring, row: &mut [u32])
 }
 
 pub(crate) fn put_whole(b: Board, row: &mut [u32])
-    requires { length row.old ≡ places.rowLong }
-    ensures { row.new ≡ boardRow b }
+    requires { length row.old ≡ places.row_long }
+    ensures { row.new ≡ board_row b }
 {
     let core = b.core;
     put_head(core.powered, core.options, b.size, row);

@@ -1,4 +1,4 @@
--- The bench table and the examples hold, by computation; cases of other crates are shown so too (`cases-shown`).
+-- The bench table and the examples hold, by computation; cases of other crates are shown so too (`cases_shown`).
 use Prim.Native.Nat.{ℕ}
 use mathlib.Core.Path.{◌≡◌, refl, ap₂}
 use mathlib.Core.Bool.{Bool, true, false, ◌&&◌, false≢true}
@@ -6,10 +6,10 @@ use mathlib.Core.List.{List, [], ◌∷◌}
 use borrow.Author.Tests.{eqb-true}
 use lib.Dec.{eqb}
 use Rattle.rules.specs.Types.{Event}
-use Rattle.rules.specs.Bench.{seen, isRead, isLoad, isSignal, bitRead, fates, moved, levels, held, rate, Sight, Case, table, AllShow, AllCases, none, next, Bench}
-use Rattle.rules.specs.Examples.{entries, entriesOverJunk, readings, allMoved, refusals, examples, Examples}
+use Rattle.rules.specs.Bench.{seen, is_read, is_load, is_signal, bit_read, fates, moved, levels, held, rate, Sight, Case, table, AllShow, AllCases, none, next, Bench}
+use Rattle.rules.specs.Examples.{entries, entries_over_junk, readings, all_moved, refusals, examples, Examples}
 use Rattle.rules.proofs.Choice.{and_both}
-use Rattle.rules.proofs.Open.{rules-open}
+use Rattle.rules.proofs.Open.{rules_open}
 
 unfoldable pub alike : List ℕ → List ℕ → Bool
 alike [] [] = true
@@ -17,12 +17,12 @@ alike [] (y ∷ ys) = false
 alike (x ∷ xs) [] = false
 alike (x ∷ xs) (y ∷ ys) = eqb x y && alike xs ys
 
-pub alike-equal : (xs ys : List ℕ) → alike xs ys ≡ true → xs ≡ ys
+pub alike_equal : (xs ys : List ℕ) → alike xs ys ≡ true → xs ≡ ys
 unfolding alike
-alike-equal [] [] h = refl
-alike-equal [] (y ∷ ys) h = absurd (false≢true h)
-alike-equal (x ∷ xs) [] h = absurd (false≢true h)
-alike-equal (x ∷ xs) (y ∷ ys) h = go (eqb x y) refl h (alike-equal xs ys)
+alike_equal [] [] h = refl
+alike_equal [] (y ∷ ys) h = absurd (false≢true h)
+alike_equal (x ∷ xs) [] h = absurd (false≢true h)
+alike_equal (x ∷ xs) (y ∷ ys) h = go (eqb x y) refl h (alike_equal xs ys)
   where
     go : (t : Bool) → eqb x y ≡ t → t && alike xs ys ≡ true → (alike xs ys ≡ true → xs ≡ ys) → x ∷ xs ≡ y ∷ ys
     go true e k r = ap₂ {C = List ℕ} (λ a l. a ∷ l) (eqb-true x y e) (r k)
@@ -41,25 +41,25 @@ unfolding showing
 shown es [] h = none
 shown es (x ∷ xs) h =
     let t = and_both (alike (x.look es) x.numbers) (showing es xs) h in
-    next (alike-equal _ _ t.0) (shown es xs t.1)
+    next (alike_equal _ _ t.0) (shown es xs t.1)
 
-pub cases-shown : (cs : List Case) → all_true cs ≡ true → AllCases cs
+pub cases_shown : (cs : List Case) → all_true cs ≡ true → AllCases cs
 unfolding all_true
-cases-shown [] h = none
-cases-shown (c ∷ cs) h =
+cases_shown [] h = none
+cases_shown (c ∷ cs) h =
     let t = and_both (showing c.session c.sights) (all_true cs) h in
-    next (shown c.session c.sights t.0) (cases-shown cs t.1)
+    next (shown c.session c.sights t.0) (cases_shown cs t.1)
 
-table-true : all_true table ≡ true
-unfolding all_true showing alike table seen isRead isLoad isSignal bitRead fates moved levels held rate rules-open
-table-true = refl
+table_true : all_true table ≡ true
+unfolding all_true showing alike table seen is_read is_load is_signal bit_read fates moved levels held rate rules_open
+table_true = refl
 
 pub bench : Bench
-bench = cases-shown table table-true
+bench = cases_shown table table_true
 
-examples-true : all_true examples ≡ true
-unfolding all_true showing alike examples seen isRead isSignal bitRead moved levels held entries entriesOverJunk readings allMoved refusals rules-open
-examples-true = refl
+examples_true : all_true examples ≡ true
+unfolding all_true showing alike examples seen is_read is_signal bit_read moved levels held entries entries_over_junk readings all_moved refusals rules_open
+examples_true = refl
 
-pub examples-shown : Examples
-examples-shown = cases-shown examples examples-true
+pub examples_shown : Examples
+examples_shown = cases_shown examples examples_true

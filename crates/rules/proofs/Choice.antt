@@ -18,20 +18,20 @@ pub either {ℓ κ} : {A : Type ℓ} (P : A → Type κ) (t : Bool) {x y : A} �
 either P true h k = h
 either P false h k = k
 
-pub cond-true {ℓ} : {A : Type ℓ} (t : Bool) (x y : A) → t ≡ true → cond t x y ≡ x
-cond-true t x y h = rw h
+pub cond_true {ℓ} : {A : Type ℓ} (t : Bool) (x y : A) → t ≡ true → cond t x y ≡ x
+cond_true t x y h = rw h
 
-pub cond-false {ℓ} : {A : Type ℓ} (t : Bool) (x y : A) → t ≡ false → cond t x y ≡ y
-cond-false t x y h = rw h
+pub cond_false {ℓ} : {A : Type ℓ} (t : Bool) (x y : A) → t ≡ false → cond t x y ≡ y
+cond_false t x y h = rw h
 
-pub cond-zero : (t : Bool) (k n : ℕ) → cond t (suc k) n ≡ 0 → (t ≡ false) × (n ≡ 0)
-cond-zero true k n h = absurd (omega arith)
-cond-zero false k n h = (refl, h)
+pub cond_zero : (t : Bool) (k n : ℕ) → cond t (suc k) n ≡ 0 → (t ≡ false) × (n ≡ 0)
+cond_zero true k n h = absurd (omega arith)
+cond_zero false k n h = (refl, h)
 
 -- a choice between the two values of a function is the function of the test
-pub cond-apply {ℓ} : {A : Type ℓ} (f : Bool → A) (t : Bool) → cond t (f true) (f false) ≡ f t
-cond-apply f true = refl
-cond-apply f false = refl
+pub cond_apply {ℓ} : {A : Type ℓ} (f : Bool → A) (t : Bool) → cond t (f true) (f false) ≡ f t
+cond_apply f true = refl
+cond_apply f false = refl
 
 pub cond_same {ℓ} : {A : Type ℓ} (t : Bool) (x : A) → cond t x x ≡ x
 cond_same true x = refl
@@ -39,31 +39,31 @@ cond_same false x = refl
 
 -- ---- && and ||
 
-pub and-cond : (x y : Bool) → x && y ≡ cond x y false
-and-cond true y = refl
-and-cond false y = refl
+pub and_cond : (x y : Bool) → x && y ≡ cond x y false
+and_cond true y = refl
+and_cond false y = refl
 
-pub or-cond : (x y : Bool) → x || y ≡ cond x true y
-or-cond true y = refl
-or-cond false y = refl
+pub or_cond : (x y : Bool) → x || y ≡ cond x true y
+or_cond true y = refl
+or_cond false y = refl
 
 pub and_both : (x y : Bool) → x && y ≡ true → (x ≡ true) × (y ≡ true)
 and_both true y h = (refl, h)
 and_both false y h = absurd (false≢true h)
 
-pub both-and : (x y : Bool) → x ≡ true → y ≡ true → x && y ≡ true
-both-and x y h k = rw (h, k)
+pub both_and : (x y : Bool) → x ≡ true → y ≡ true → x && y ≡ true
+both_and x y h k = rw (h, k)
 
-pub and-true : (x : Bool) → x && true ≡ x
-and-true true = refl
-and-true false = refl
+pub and_true : (x : Bool) → x && true ≡ x
+and_true true = refl
+and_true false = refl
 
-pub or-neither : (x y : Bool) → x || y ≡ false → (x ≡ false) × (y ≡ false)
-or-neither true y h = absurd (true≢false h)
-or-neither false y h = (refl, h)
+pub or_neither : (x y : Bool) → x || y ≡ false → (x ≡ false) × (y ≡ false)
+or_neither true y h = absurd (true≢false h)
+or_neither false y h = (refl, h)
 
-pub neither-or : (x y : Bool) → x ≡ false → y ≡ false → x || y ≡ false
-neither-or x y h k = rw (h, k)
+pub neither_or : (x y : Bool) → x ≡ false → y ≡ false → x || y ≡ false
+neither_or x y h k = rw (h, k)
 
 pub or_left : (x y : Bool) → x ≡ true → x || y ≡ true
 or_left x y h = rw h
@@ -78,51 +78,51 @@ pub all_cons : (t : Bool) (ts : List Bool) → all (t ∷ ts) ≡ true → (t �
 unfolding all
 all_cons t ts h = and_both t (all ts) h
 
-pub cons-all : (t : Bool) (ts : List Bool) → t ≡ true → all ts ≡ true → all (t ∷ ts) ≡ true
+pub cons_all : (t : Bool) (ts : List Bool) → t ≡ true → all ts ≡ true → all (t ∷ ts) ≡ true
 unfolding all
-cons-all t ts h k = both-and t (all ts) h k
+cons_all t ts h k = both_and t (all ts) h k
 
 pub all_nil : all [] ≡ true
 unfolding all
 all_nil = refl
 
-pub onlyIf-to : (a b : Bool) → only_if a b ≡ true → a ≡ true → b ≡ true
+pub only_if_to : (a b : Bool) → only_if a b ≡ true → a ≡ true → b ≡ true
 unfolding only_if
-onlyIf-to true b h k = h
-onlyIf-to false b h k = absurd (false≢true k)
+only_if_to true b h k = h
+only_if_to false b h k = absurd (false≢true k)
 
-pub onlyIf-from : (a b : Bool) → (a ≡ true → b ≡ true) → only_if a b ≡ true
+pub only_if_from : (a b : Bool) → (a ≡ true → b ≡ true) → only_if a b ≡ true
 unfolding only_if
-onlyIf-from true b f = f refl
-onlyIf-from false b f = refl
+only_if_from true b f = f refl
+only_if_from false b f = refl
 
-pub not-and-to : (a b : Bool) → not (a && b) ≡ true → a ≡ true → b ≡ false
-not-and-to true true h k = absurd (false≢true h)
-not-and-to true false h k = refl
-not-and-to false b h k = absurd (false≢true k)
+pub not_and_to : (a b : Bool) → not (a && b) ≡ true → a ≡ true → b ≡ false
+not_and_to true true h k = absurd (false≢true h)
+not_and_to true false h k = refl
+not_and_to false b h k = absurd (false≢true k)
 
-pub not-and-from : (a b : Bool) → (a ≡ true → b ≡ false) → not (a && b) ≡ true
-not-and-from true true f = absurd (true≢false (f refl))
-not-and-from true false f = refl
-not-and-from false b f = refl
+pub not_and_from : (a b : Bool) → (a ≡ true → b ≡ false) → not (a && b) ≡ true
+not_and_from true true f = absurd (true≢false (f refl))
+not_and_from true false f = refl
+not_and_from false b f = refl
 
 -- ---- A test that does not hold
 
-pub not-both : (t : Bool) → not t ≡ true → t ≡ true → ⊥
-not-both true h k = false≢true h
-not-both false h k = false≢true k
+pub not_both : (t : Bool) → not t ≡ true → t ≡ true → ⊥
+not_both true h k = false≢true h
+not_both false h k = false≢true k
 
-pub not-not : (t : Bool) → not t ≡ false → t ≡ true
-not-not true h = refl
-not-not false h = absurd (true≢false h)
+pub not_not : (t : Bool) → not t ≡ false → t ≡ true
+not_not true h = refl
+not_not false h = absurd (true≢false h)
 
-pub not-true : (t : Bool) → (t ≡ true → ⊥) → t ≡ false
-not-true true f = absurd (f refl)
-not-true false f = refl
+pub not_true : (t : Bool) → (t ≡ true → ⊥) → t ≡ false
+not_true true f = absurd (f refl)
+not_true false f = refl
 
-pub not-false : (t : Bool) → (t ≡ false → ⊥) → t ≡ true
-not-false true f = refl
-not-false false f = absurd (f refl)
+pub not_false : (t : Bool) → (t ≡ false → ⊥) → t ≡ true
+not_false true f = refl
+not_false false f = absurd (f refl)
 
 pub or_cases {κ} : {C : Type κ} (x y : Bool) → x || y ≡ true → (x ≡ true → C) → (y ≡ true → C) → C
 or_cases true y h f g = f refl
@@ -139,12 +139,12 @@ unfoldable pub up_to : ℕ → (ℕ → Bool) → Bool
 up_to zero f = true
 up_to (suc n) f = f n && up_to n f
 
-pub upTo-at : (n : ℕ) (f : ℕ → Bool) → up_to n f ≡ true → (k : ℕ) → k < n → f k ≡ true
+pub up_to_at : (n : ℕ) (f : ℕ → Bool) → up_to n f ≡ true → (k : ℕ) → k < n → f k ≡ true
 unfolding up_to
-upTo-at zero f h k l = absurd (not-suc-le-zero l)
-upTo-at (suc n) f h k l =
+up_to_at zero f h k l = absurd (not-suc-le-zero l)
+up_to_at (suc n) f h k l =
     let t = and_both (f n) (up_to n f) h in
-    go (ℕ_discrete k n) t.0 (upTo-at n f t.1 k)
+    go (ℕ_discrete k n) t.0 (up_to_at n f t.1 k)
   where
     go : Dec (k ≡ n) → f n ≡ true → (k < n → f k ≡ true) → f k ≡ true
     go (yes e) a b = rw e a

@@ -9,18 +9,18 @@ use Rattle.rules.specs.ToldInNumbers.{ToldInNumbers, ToldInNumbers-unique}
 pub determined {ℓ} : {A : Type ℓ} {x y z : A} → x ≡ z → y ≡ z → x ≡ y
 determined p q = p ∙ sym q
 
-pub told-unique : Told-unique
-told-unique A x r r' p q = determined p.told q.told
+pub told_unique : Told-unique
+told_unique A x r r' p q = determined p.told q.told
 
-pub told-in-numbers-unique : ToldInNumbers-unique
-told-in-numbers-unique A N numbers x r r' p q = determined p.told q.told
+pub told_in_numbers_unique : ToldInNumbers-unique
+told_in_numbers_unique A N numbers x r r' p q = determined p.told q.told
 
 -- what is equal has equal numbers
-pub told-in-numbers : {A N : Type 0} (numbers : A → N) {x r : A} → r ≡ x → ToldInNumbers numbers x r
-told-in-numbers numbers e = record { told = e; in-numbers = ap numbers e }
+pub told_in_numbers : {A N : Type 0} (numbers : A → N) {x r : A} → r ≡ x → ToldInNumbers numbers x r
+told_in_numbers numbers e = record { told = e; in_numbers = ap numbers e }
 
-pub told-false : {x r : Bool} → Told x r → not r ≡ true → x ≡ false
-told-false {x} {r} p h = sym p.told ∙ not-true r h
+pub told_false : {x r : Bool} → Told x r → not r ≡ true → x ≡ false
+told_false {x} {r} p h = sym p.told ∙ not-true r h
 
-pub told-true : {x r : Bool} → Told x r → not r ≡ false → x ≡ true
-told-true {x} {r} p h = sym p.told ∙ not-false r h
+pub told_true : {x r : Bool} → Told x r → not r ≡ false → x ≡ true
+told_true {x} {r} p h = sym p.told ∙ not-false r h

@@ -10,11 +10,11 @@ use borrow.Author.Tests.{eqb-false}
 use lib.Dec.{eqb}
 use lib.Pow.{pow_pos, pow_mono, shr-shr}
 use Rattle.rules.specs.Bits.{bit}
-use Rattle.rules.proofs.Choice.{not-true}
+use Rattle.rules.proofs.Choice.{not_true}
 
 -- bit n + k of v is bit k of v over 2^n
-pub bit-shift : (n k v : ℕ) → bit (n + k) v ≡ bit k (v / 2 ^ n)
-bit-shift n k v = ap (λ (x : ℕ). eqb (x % 2) 1) (sym (shr-shr v n k))
+pub bit_shift : (n k v : ℕ) → bit (n + k) v ≡ bit k (v / 2 ^ n)
+bit_shift n k v = ap (λ (x : ℕ). eqb (x % 2) 1) (sym (shr-shr v n k))
 
 pub bit_below : (n k v : ℕ) → v < 2 ^ n → n ≤ k → bit k v ≡ false
 bit_below n k v h l =
@@ -24,34 +24,34 @@ bit_below n k v h l =
 
 -- ---- The lowest bit, and the others as bits of the half
 
-pub bit-even : (v : ℕ) → bit 0 v ≡ false → v % 2 ≡ 0
-bit-even v z =
+pub bit_even : (v : ℕ) → bit 0 v ≡ false → v % 2 ≡ 0
+bit_even v z =
     let e : v % 2 ≢ 1 = eqb-false (v % 2) 1 (ap (λ (x : ℕ). eqb (x % 2) 1) (sym (div-one v)) ∙ z) in
     omega arith
 
-pub bit-suc : (k v : ℕ) → bit (suc k) v ≡ bit k (v / 2)
-bit-suc k v = ap (λ (x : ℕ). bit x v) (sym (one-add k)) ∙ bit-shift 1 k v
+pub bit_suc : (k v : ℕ) → bit (suc k) v ≡ bit k (v / 2)
+bit_suc k v = ap (λ (x : ℕ). bit x v) (sym (one-add k)) ∙ bit_shift 1 k v
 
 -- ---- A number without bits is 0
 
-pub below-pow : (n : ℕ) → n < 2 ^ n
-below-pow zero = omega arith
-below-pow (suc n) = omega (arith, below-pow n, pow-suc 2 n)
+pub below_pow : (n : ℕ) → n < 2 ^ n
+below_pow zero = omega arith
+below_pow (suc n) = omega (arith, below_pow n, pow-suc 2 n)
 
 bits_none : (n v : ℕ) → v < 2 ^ n → ((k : ℕ) → bit k v ≡ false) → v ≡ 0
 bits_none zero v h f = omega arith
 bits_none (suc n) v h f =
-    let half : v / 2 ≡ 0 = bits_none n (v / 2) (omega (arith, pow-suc 2 n)) (λ k. sym (bit-suc k v) ∙ f (suc k)) in
-    omega (arith, bit-even v (f 0))
+    let half : v / 2 ≡ 0 = bits_none n (v / 2) (omega (arith, pow-suc 2 n)) (λ k. sym (bit_suc k v) ∙ f (suc k)) in
+    omega (arith, bit_even v (f 0))
 
 -- ---- No bit from n up
 
-pub below-bits : (n v : ℕ) → ((k : ℕ) → bit k v ≡ true → k < n) → v < 2 ^ n
-below-bits n v f =
+pub below_bits : (n v : ℕ) → ((k : ℕ) → bit k v ≡ true → k < n) → v < 2 ^ n
+below_bits n v f =
     let q = v / 2 ^ n in
-    let z : q ≡ 0 = bits_none q q (below-pow q) (λ k. not-true (bit k q) (λ h. above k h)) in
+    let z : q ≡ 0 = bits_none q q (below_pow q) (λ k. not_true (bit k q) (λ h. above k h)) in
     let l : v < 1 * 2 ^ n = (div-lt_iff_lt-mul (pow_pos n)).0 (omega arith) in
     rw one-mul at l
   where
     above : (k : ℕ) → bit k (v / 2 ^ n) ≡ true → ⊥
-    above k h = let l : n + k < n = f (n + k) (bit-shift n k v ∙ h) in omega arith
+    above k h = let l : n + k < n = f (n + k) (bit_shift n k v ∙ h) in omega arith

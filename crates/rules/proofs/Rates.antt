@@ -9,37 +9,37 @@ use lib.Dec.{eqb}
 use Rattle.rules.specs.Types.{Figures, Board}
 use Rattle.rules.specs.Record.{sound}
 use Rattle.rules.specs.Refusals.{first_of}
-use Rattle.rules.specs.Rates.{referenceOf, wholeReference, sampleRate, rateRefusal, rates}
-use Rattle.rules.specs.Laws.Rates.{RateGiven, unsound, external, divisorZero, answered, Rate-exactly, Rate-refused, RoundedDown, RateFigures, Rate-figures}
-use Rattle.rules.proofs.Choice.{cases, not-true, not-both, not-not}
-use Rattle.rules.proofs.Soundness.{sound-exactly}
+use Rattle.rules.specs.Rates.{reference_of, whole_reference, sample_rate, rate_refusal, rates}
+use Rattle.rules.specs.Laws.Rates.{RateGiven, unsound, external, divisor_zero, answered, Rate-exactly, Rate-refused, RoundedDown, RateFigures, Rate-figures}
+use Rattle.rules.proofs.Choice.{cases, not_true, not_both, not_not}
+use Rattle.rules.proofs.Soundness.{sound_exactly}
 
-rate-number : (b : Board) → (rates b).refusal ≡ rateRefusal b
+rate_number : (b : Board) → (rates b).refusal ≡ rate_refusal b
 unfolding rates
-rate-number b = cases (λ (f : Figures). f.refusal ≡ rateRefusal b) (eqb (rateRefusal b) 0) (λ h. sym (eqb-true _ _ h)) (λ h. refl)
+rate_number b = cases (λ (f : Figures). f.refusal ≡ rate_refusal b) (eqb (rate_refusal b) 0) (λ h. sym (eqb-true _ _ h)) (λ h. refl)
 
-rate-given : (b : Board) → RateGiven b (rateRefusal b)
-unfolding rateRefusal first_of
-rate-given b =
-    cases (RateGiven b) (not (sound b)) (λ h. unsound (λ k. not-both (sound b) h ((sound-exactly b).1 k))) (λ h.
-    let s = (sound-exactly b).0 (not-not (sound b) h) in
+rate_given : (b : Board) → RateGiven b (rate_refusal b)
+unfolding rate_refusal first_of
+rate_given b =
+    cases (RateGiven b) (not (sound b)) (λ h. unsound (λ k. not_both (sound b) h ((sound_exactly b).1 k))) (λ h.
+    let s = (sound_exactly b).0 (not_not (sound b) h) in
     cases (RateGiven b) b.core.mode.external (external s) (λ x.
-    cases (RateGiven b) (eqb b.core.clock.divisor 0) (λ d. divisorZero s x (eqb-true _ _ d)) (λ d. answered s x (eqb-false _ _ d))))
+    cases (RateGiven b) (eqb b.core.clock.divisor 0) (λ d. divisor_zero s x (eqb-true _ _ d)) (λ d. answered s x (eqb-false _ _ d))))
 
-given-rate : (b : Board) {n : ℕ} → RateGiven b n → rateRefusal b ≡ n
-unfolding rateRefusal first_of
-given-rate b (unsound h) = rw (not-true (sound b) (λ k. h ((sound-exactly b).0 k)))
-given-rate b (external s x) = rw ((sound-exactly b).1 s, x)
-given-rate b (divisorZero s x d) = rw ((sound-exactly b).1 s, x, d)
-given-rate b (answered s x d) = rw ((sound-exactly b).1 s, x, ne_eqb _ _ d)
+given_rate : (b : Board) {n : ℕ} → RateGiven b n → rate_refusal b ≡ n
+unfolding rate_refusal first_of
+given_rate b (unsound h) = rw (not_true (sound b) (λ k. h ((sound_exactly b).0 k)))
+given_rate b (external s x) = rw ((sound_exactly b).1 s, x)
+given_rate b (divisor_zero s x d) = rw ((sound_exactly b).1 s, x, d)
+given_rate b (answered s x d) = rw ((sound_exactly b).1 s, x, ne_eqb _ _ d)
 
-pub rate-exactly : Rate-exactly
-rate-exactly b n = (λ h. subst (RateGiven b) (sym (rate-number b) ∙ h) (rate-given b), λ g. rate-number b ∙ given-rate b g)
+pub rate_exactly : Rate-exactly
+rate_exactly b n = (λ h. subst (RateGiven b) (sym (rate_number b) ∙ h) (rate_given b), λ g. rate_number b ∙ given_rate b g)
 
-pub rate-refused : Rate-refused
+pub rate_refused : Rate-refused
 unfolding rates
-rate-refused b h =
-    let z : eqb (rateRefusal b) 0 ≡ false = ne_eqb _ _ (λ e. h (rate-number b ∙ e)) in
+rate_refused b h =
+    let z : eqb (rate_refusal b) 0 ≡ false = ne_eqb _ _ (λ e. h (rate_number b ∙ e)) in
     (rw z, rw z)
 
 -- ---- The figures
@@ -48,20 +48,20 @@ divided : (n d : ℕ) → zero < d → RoundedDown n d (n / d)
 divided n d h =
     let e : n / d * d + n % d ≡ n = div-add-mod' n d in
     let l : n % d < d = mod-lt n h in
-    record { notMore = omega arith; notLess = omega (arith, suc-mul (n / d) d) }
+    record { not_more = omega arith; not_less = omega (arith, suc-mul (n / d) d) }
 
-pub rate-figures : Rate-figures
-unfolding rates wholeReference sampleRate referenceOf
-rate-figures b h = go ((rate-exactly b 0).0 h)
+pub rate_figures : Rate-figures
+unfolding rates whole_reference sample_rate reference_of
+rate_figures b h = go ((rate_exactly b 0).0 h)
   where
-    z : eqb (rateRefusal b) 0 ≡ true
-    z = eq-eqb _ _ (sym (rate-number b) ∙ h)
+    z : eqb (rate_refusal b) 0 ≡ true
+    z = eq-eqb _ _ (sym (rate_number b) ∙ h)
 
     go : RateGiven b 0 → RateFigures b
     go (answered s x d) =
         record {
           fixed = λ a. rw (z, a);
-          fixedRate = λ a. rw (z, a) (divided 30000000 b.core.clock.divisor (omega arith));
+          fixed_rate = λ a. rw (z, a) (divided 30000000 b.core.clock.divisor (omega arith));
           adjusted = λ a. rw (z, a) (divided (16000000 * (511 + b.core.clock.nclk)) 511 (omega arith));
-          adjustedRate = λ a. rw (z, a) (divided (16000000 * (511 + b.core.clock.nclk)) (511 * b.core.clock.divisor) (omega arith));
+          adjusted_rate = λ a. rw (z, a) (divided (16000000 * (511 + b.core.clock.nclk)) (511 * b.core.clock.divisor) (omega arith));
         }

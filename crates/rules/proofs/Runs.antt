@@ -6,21 +6,21 @@ use Rattle.rules.specs.Step.{Outcome, step}
 use Rattle.rules.specs.Session.{outcomes, after}
 use Rattle.rules.specs.Laws.Runs.{Start-lent, After-append, Outcomes-append, Outcomes-take}
 
-pub start-lent : Start-lent
-start-lent m = record { board = refl; memory = refl }
+pub start_lent : Start-lent
+start_lent m = record { board = refl; memory = refl }
 
-pub after-append : After-append
+pub after_append : After-append
 unfolding after
-after-append s [] fs = refl
-after-append s (e ∷ es) fs = after-append (step s e).state es fs
+after_append s [] fs = refl
+after_append s (e ∷ es) fs = after_append (step s e).state es fs
 
-pub outcomes-append : Outcomes-append
+pub outcomes_append : Outcomes-append
 unfolding outcomes after
-outcomes-append s [] fs = refl
-outcomes-append s (e ∷ es) fs = ap (λ (l : List Outcome). step s e ∷ l) (outcomes-append (step s e).state es fs)
+outcomes_append s [] fs = refl
+outcomes_append s (e ∷ es) fs = ap (λ (l : List Outcome). step s e ∷ l) (outcomes_append (step s e).state es fs)
 
-pub outcomes-take : Outcomes-take
+pub outcomes_take : Outcomes-take
 unfolding outcomes
-outcomes-take s zero es = refl
-outcomes-take s (suc n) [] = refl
-outcomes-take s (suc n) (e ∷ es) = ap (λ (l : List Outcome). step s e ∷ l) (outcomes-take (step s e).state n es)
+outcomes_take s zero es = refl
+outcomes_take s (suc n) [] = refl
+outcomes_take s (suc n) (e ∷ es) = ap (λ (l : List Outcome). step s e ∷ l) (outcomes_take (step s e).state n es)

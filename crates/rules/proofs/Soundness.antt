@@ -1,5 +1,5 @@
 -- Soundness: the test is exactly the facts.
---   SoundCore c     the facts of `soundCore`, by parts, so that a rule need only speak of the parts that it changes
+--   SoundCore c     the facts of `sound_core`, by parts, so that a rule need only speak of the parts that it changes
 use Prim.Native.Nat.{ℕ, ◌^◌, ◌≤◌, ◌<◌}
 use mathlib.Core.Path.{◌≡◌, refl, sym, ◌∙◌}
 use mathlib.Core.Bool.{Bool, true, false, ◌||◌, true≢false}
@@ -8,10 +8,10 @@ use native.Mathlib.Omega.{arith}
 use borrow.Author.Tests.{ltb-true, leb-true, le-leb, lt-ltb, eqb-true, eq-eqb}
 use Rattle.rules.specs.Types.{Options, Size, Burst, Load, Outputs, Core, Ring, Board}
 use Rattle.rules.specs.Bits.{bit}
-use Rattle.rules.specs.Record.{depth_of, channels, optionsInRange, soundCore, soundRing, sound}
+use Rattle.rules.specs.Record.{depth_of, channels, options_in_range, sound_core, sound_ring, sound}
 use Rattle.rules.specs.Laws.Soundness.{Sound, Sound-exactly}
-use Rattle.rules.proofs.Choice.{and_both, both-and, or_left, or_right, all_cons, cons-all, all_nil, onlyIf-to, onlyIf-from, not-and-to, not-and-from}
-use Rattle.rules.proofs.Masks.{bit_below, below-bits}
+use Rattle.rules.proofs.Choice.{and_both, both_and, or_left, or_right, all_cons, cons_all, all_nil, only_if_to, only_if_from, not_and_to, not_and_from}
+use Rattle.rules.proofs.Masks.{bit_below, below_bits}
 
 -- ---- Soundness by parts
 
@@ -53,27 +53,27 @@ pub record SoundRing (z : Size) (r : Ring) : Type 0 where
 
 -- ---- The tests are the parts
 
-options-to : (o : Options) → optionsInRange o ≡ true → SoundOptions o
-unfolding optionsInRange
-options-to o h =
+options_to : (o : Options) → options_in_range o ≡ true → SoundOptions o
+unfolding options_in_range
+options_to o h =
     let a = all_cons _ _ h in
     let b = all_cons _ _ a.1 in
     let c = all_cons _ _ b.1 in
     let d = all_cons _ _ c.1 in
     record { range = leb-true _ _ a.0; filter = leb-true _ _ b.0; kit = leb-true _ _ c.0; firmware = leb-true _ _ d.0 }
 
-options-from : (o : Options) → SoundOptions o → optionsInRange o ≡ true
-unfolding optionsInRange
-options-from o s =
-    cons-all _ _ (le-leb _ _ s.range) (cons-all _ _ (le-leb _ _ s.filter) (cons-all _ _ (le-leb _ _ s.kit) (cons-all _ _ (le-leb _ _ s.firmware) all_nil)))
+options_from : (o : Options) → SoundOptions o → options_in_range o ≡ true
+unfolding options_in_range
+options_from o s =
+    cons_all _ _ (le-leb _ _ s.range) (cons_all _ _ (le-leb _ _ s.filter) (cons_all _ _ (le-leb _ _ s.kit) (cons_all _ _ (le-leb _ _ s.firmware) all_nil)))
 
-or-either : (x y c : Bool) → (x ≡ true → c ≡ true) → (y ≡ true → c ≡ true) → x || y ≡ true → c ≡ true
-or-either true y c f g h = f refl
-or-either false y c f g h = g h
+or_either : (x y c : Bool) → (x ≡ true → c ≡ true) → (y ≡ true → c ≡ true) → x || y ≡ true → c ≡ true
+or_either true y c f g h = f refl
+or_either false y c f g h = g h
 
-pub core-to : (c : Core) → soundCore c ≡ true → SoundCore c
-unfolding soundCore
-core-to c h0 =
+pub core_to : (c : Core) → sound_core c ≡ true → SoundCore c
+unfolding sound_core
+core_to c h0 =
     let h1 = all_cons _ _ h0 in
     let h2 = all_cons _ _ h1.1 in
     let h3 = all_cons _ _ h2.1 in
@@ -86,64 +86,64 @@ core-to c h0 =
     let h10 = all_cons _ _ h9.1 in
     let h11 = all_cons _ _ h10.1 in
     let h12 = all_cons _ _ h11.1 in
-    let circles = onlyIf-to (c.load.pending || c.load.opened) c.mode.circular h8.0 in
+    let circles = only_if_to (c.load.pending || c.load.opened) c.mode.circular h8.0 in
     record {
       powered = h1.0;
-      options = options-to c.options h2.0;
+      options = options_to c.options h2.0;
       outputs = record {
         mask = ltb-true _ _ h3.0;
         cursor = leb-true _ _ h4.0;
-        zeroed = λ e. eqb-true _ _ (onlyIf-to _ _ h5.0 e);
+        zeroed = λ e. eqb-true _ _ (only_if_to _ _ h5.0 e);
       };
       selection = leb-true _ _ h6.0;
       nclk = leb-true _ _ h7.0;
       load = record {
         pending = λ e. circles (or_left _ c.load.opened e);
         opened = λ e. circles (or_right c.load.pending _ e);
-        apart = not-and-to c.load.pending c.load.opened h9.0;
+        apart = not_and_to c.load.pending c.load.opened h9.0;
       };
-      burst = record { running = onlyIf-to _ _ h10.0; software = onlyIf-to _ _ h11.0 };
-      calibrating = not-and-to c.calibration.running c.calibration.calibrated h12.0;
+      burst = record { running = only_if_to _ _ h10.0; software = only_if_to _ _ h11.0 };
+      calibrating = not_and_to c.calibration.running c.calibration.calibrated h12.0;
     }
 
-pub core-from : (c : Core) → SoundCore c → soundCore c ≡ true
-unfolding soundCore
-core-from c s =
-    cons-all _ _ s.powered
-    (cons-all _ _ (options-from c.options s.options)
-    (cons-all _ _ (lt-ltb _ _ s.outputs.mask)
-    (cons-all _ _ (le-leb _ _ s.outputs.cursor)
-    (cons-all _ _ (onlyIf-from _ _ (λ e. eq-eqb _ _ (s.outputs.zeroed e)))
-    (cons-all _ _ (le-leb _ _ s.selection)
-    (cons-all _ _ (le-leb _ _ s.nclk)
-    (cons-all _ _ (onlyIf-from _ _ (or-either c.load.pending c.load.opened c.mode.circular s.load.pending s.load.opened))
-    (cons-all _ _ (not-and-from c.load.pending c.load.opened s.load.apart)
-    (cons-all _ _ (onlyIf-from _ _ s.burst.running)
-    (cons-all _ _ (onlyIf-from _ _ s.burst.software)
-    (cons-all _ _ (not-and-from c.calibration.running c.calibration.calibrated s.calibrating) all_nil)))))))))))
+pub core_from : (c : Core) → SoundCore c → sound_core c ≡ true
+unfolding sound_core
+core_from c s =
+    cons_all _ _ s.powered
+    (cons_all _ _ (options_from c.options s.options)
+    (cons_all _ _ (lt-ltb _ _ s.outputs.mask)
+    (cons_all _ _ (le-leb _ _ s.outputs.cursor)
+    (cons_all _ _ (only_if_from _ _ (λ e. eq-eqb _ _ (s.outputs.zeroed e)))
+    (cons_all _ _ (le-leb _ _ s.selection)
+    (cons_all _ _ (le-leb _ _ s.nclk)
+    (cons_all _ _ (only_if_from _ _ (or_either c.load.pending c.load.opened c.mode.circular s.load.pending s.load.opened))
+    (cons_all _ _ (not_and_from c.load.pending c.load.opened s.load.apart)
+    (cons_all _ _ (only_if_from _ _ s.burst.running)
+    (cons_all _ _ (only_if_from _ _ s.burst.software)
+    (cons_all _ _ (not_and_from c.calibration.running c.calibration.calibrated s.calibrating) all_nil)))))))))))
 
-ring-to : (z : Size) (r : Ring) → soundRing z r ≡ true → SoundRing z r
-unfolding soundRing
-ring-to z r h =
+ring_to : (z : Size) (r : Ring) → sound_ring z r ≡ true → SoundRing z r
+unfolding sound_ring
+ring_to z r h =
     let a = all_cons _ _ h in
     let b = all_cons _ _ a.1 in
     let c = all_cons _ _ b.1 in
     let d = all_cons _ _ c.1 in
     record { fitted = leb-true _ _ a.0; code = leb-true _ _ b.0; first = ltb-true _ _ c.0; count = leb-true _ _ d.0 }
 
-pub ring-from : (z : Size) (r : Ring) → SoundRing z r → soundRing z r ≡ true
-unfolding soundRing
-ring-from z r s =
-    cons-all _ _ (le-leb _ _ s.fitted) (cons-all _ _ (le-leb _ _ s.code) (cons-all _ _ (lt-ltb _ _ s.first) (cons-all _ _ (le-leb _ _ s.count) all_nil)))
+pub ring_from : (z : Size) (r : Ring) → SoundRing z r → sound_ring z r ≡ true
+unfolding sound_ring
+ring_from z r s =
+    cons_all _ _ (le-leb _ _ s.fitted) (cons_all _ _ (le-leb _ _ s.code) (cons_all _ _ (lt-ltb _ _ s.first) (cons_all _ _ (le-leb _ _ s.count) all_nil)))
 
 -- ---- The facts of Laws/Soundness are the parts and the ring
 
-pub sound-core : (b : Board) → Sound b → SoundCore b.core
-sound-core b s =
+pub sound_core_lem : (b : Board) → Sound b → SoundCore b.core
+sound_core_lem b s =
     record {
       powered = s.powered;
       options = record { range = s.range; filter = s.filter; kit = s.kit; firmware = s.firmware };
-      outputs = record { mask = below-bits _ _ s.mask; cursor = s.cursor; zeroed = s.zeroed };
+      outputs = record { mask = below_bits _ _ s.mask; cursor = s.cursor; zeroed = s.zeroed };
       selection = s.selection;
       nclk = s.nclk;
       load = record { pending = s.pending; opened = s.opened; apart = s.apart };
@@ -158,11 +158,11 @@ fits n v h k t = go (dec_lt k n)
     go (yes l) = l
     go (no l) = absurd (true≢false (sym t ∙ bit_below n k v h (omega arith)))
 
-pub sound-ring : (b : Board) → Sound b → SoundRing b.size b.ring
-sound-ring b s = record { fitted = s.fitted; code = s.code; first = s.first; count = s.count }
+pub sound_ring_lem : (b : Board) → Sound b → SoundRing b.size b.ring
+sound_ring_lem b s = record { fitted = s.fitted; code = s.code; first = s.first; count = s.count }
 
-pub sound-parts : (b : Board) → SoundCore b.core → SoundRing b.size b.ring → Sound b
-sound-parts b c r =
+pub sound_parts : (b : Board) → SoundCore b.core → SoundRing b.size b.ring → Sound b
+sound_parts b c r =
     record {
       powered = c.powered;
       fitted = r.fitted;
@@ -186,11 +186,11 @@ sound-parts b c r =
       calibrating = c.calibrating;
     }
 
-pub sound-exactly : Sound-exactly
+pub sound_exactly : Sound-exactly
 unfolding sound
-sound-exactly b = (
+sound_exactly b = (
   λ h.
-      let t = and_both (soundCore b.core) (soundRing b.size b.ring) h in
-      sound-parts b (core-to b.core t.0) (ring-to b.size b.ring t.1),
-  λ h. both-and _ _ (core-from b.core (sound-core b h)) (ring-from b.size b.ring (sound-ring b h)),
+      let t = and_both (sound_core b.core) (sound_ring b.size b.ring) h in
+      sound_parts b (core_to b.core t.0) (ring_to b.size b.ring t.1),
+  λ h. both_and _ _ (core_from b.core (sound_core_lem b h)) (ring_from b.size b.ring (sound_ring_lem b h)),
 )

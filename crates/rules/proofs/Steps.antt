@@ -16,19 +16,19 @@ use Rattle.rules.specs.Laws.Refusals.{Refusal-answered}
 
 -- ---- Done or refused
 
-pub step-done : (s : State) (e : Event) → refusal s e ≡ 0 → step s e ≡ done s e
+pub step_done : (s : State) (e : Event) → refusal s e ≡ 0 → step s e ≡ done s e
 unfolding step
-step-done s e h = rw h
+step_done s e h = rw h
 
-pub step-refused : (s : State) (e : Event) → eqb (refusal s e) 0 ≡ false → step s e ≡ refused (refusal s e) s
+pub step_refused : (s : State) (e : Event) → eqb (refusal s e) 0 ≡ false → step s e ≡ refused (refusal s e) s
 unfolding step
-step-refused s e h = rw h
+step_refused s e h = rw h
 
 -- to show a fact of every event, show it of the done and of the refused
-pub step-cases {κ} : (P : Outcome → Type κ) (s : State) (e : Event)
+pub step_cases {κ} : (P : Outcome → Type κ) (s : State) (e : Event)
     → (refusal s e ≡ 0 → P (done s e)) → (refusal s e ≢ 0 → P (refused (refusal s e) s)) → P (step s e)
 unfolding step
-step-cases P s e f g = go (eqb (refusal s e) 0) refl
+step_cases P s e f g = go (eqb (refusal s e) 0) refl
   where
     go : (t : Bool) → eqb (refusal s e) 0 ≡ t → P (cond t (done s e) (refused (refusal s e) s))
     go true h = f (eqb-true (refusal s e) 0 h)
@@ -37,20 +37,20 @@ step-cases P s e f g = go (eqb (refusal s e) 0) refl
         unequal : refusal s e ≡ 0 → ⊥
         unequal = borrow.Author.Tests.eqb-false (refusal s e) 0 h
 
-pub refusal-answered : Refusal-answered
+pub refusal_answered : Refusal-answered
 unfolding done refused
-refusal-answered s e = step-cases (λ o. o.answer.refusal ≡ refusal s e) s e (λ h. sym h) (λ h. refl)
+refusal_answered s e = step_cases (λ o. o.answer.refusal ≡ refusal s e) s e (λ h. sym h) (λ h. refl)
 
 -- ---- How many values are stored
 
-pub length-values : (d f c : ℕ) (m : List ℕ) → length (values d f c m) ≡ c
+pub length_values : (d f c : ℕ) (m : List ℕ) → length (values d f c m) ≡ c
 unfolding values
-length-values d f zero m = refl
-length-values d f (suc c) m = ap suc (length-values d ((f + 1) % d) c m)
+length_values d f zero m = refl
+length_values d f (suc c) m = ap suc (length_values d ((f + 1) % d) c m)
 
-pub stored-length : (s : State) → length (stored s) ≡ s.board.ring.count
+pub stored_length : (s : State) → length (stored s) ≡ s.board.ring.count
 unfolding stored
-stored-length s = length-values (depth s.board) s.board.ring.first s.board.ring.count s.memory
+stored_length s = length_values (depth s.board) s.board.ring.first s.board.ring.count s.memory
 
 abbrev pub place_of : State → Place
 place_of s = record { ring = s.board.ring; memory = s.memory }

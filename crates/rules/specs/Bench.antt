@@ -2,7 +2,7 @@
 --   Case      a session from power-up, and what is to be seen of it
 --   Sight     a look at the session and the numbers that it shows
 use Rattle.std.specs.Prelude.{ℕ, ◌≡◌, Bool, true, false, cond, List, [], ◌∷◌, eqb, replicate, take}
-use Rattle.rules.specs.Types.{Figures, Event, powerUp, write, read, signal, tick, trigger}
+use Rattle.rules.specs.Types.{Figures, Event, power_up, write, read, signal, tick, trigger}
 use Rattle.rules.specs.Bits.{bit, flag}
 use Rattle.rules.specs.Record.{State, stored, start}
 use Rattle.rules.specs.Step.{Outcome, step}
@@ -13,7 +13,7 @@ use Rattle.rules.specs.Rates.{rates}
 
 -- power-up with a depth of 16 values and 20 channels
 abbrev pub on : Event
-on = powerUp (record { fitted = 1; range = 0; filter = 0; kit = 2; firmware = 0 })
+on = power_up (record { fitted = 1; range = 0; filter = 0; kit = 2; firmware = 0 })
 
 abbrev pub bcr : ℕ → Event
 bcr v = write 0x00 v
@@ -52,35 +52,35 @@ seen chosen shows s (e ∷ es) =
     let rest : List ℕ = seen chosen shows (step s e).state es in
     cond (chosen e) (shows (step s e) ∷ rest) rest
 
-unfoldable pub isRead : Event → Bool
-isRead (powerUp x) = false
-isRead (write o v) = false
-isRead (read o) = true
-isRead (signal x) = false
+unfoldable pub is_read : Event → Bool
+is_read (power_up x) = false
+is_read (write o v) = false
+is_read (read o) = true
+is_read (signal x) = false
 
-unfoldable pub isLoad : Event → Bool
-isLoad (powerUp x) = false
-isLoad (write o v) = eqb o 0x18
-isLoad (read o) = false
-isLoad (signal x) = false
+unfoldable pub is_load : Event → Bool
+is_load (power_up x) = false
+is_load (write o v) = eqb o 0x18
+is_load (read o) = false
+is_load (signal x) = false
 
-unfoldable pub isSignal : Event → Bool
-isSignal (powerUp x) = false
-isSignal (write o v) = false
-isSignal (read o) = false
-isSignal (signal x) = true
+unfoldable pub is_signal : Event → Bool
+is_signal (power_up x) = false
+is_signal (write o v) = false
+is_signal (read o) = false
+is_signal (signal x) = true
 
 -- Dk of each reading
-unfoldable pub bitRead : ℕ → Look
-bitRead k es = seen isRead (λ o. flag (bit k o.answer.register)) bench es
+unfoldable pub bit_read : ℕ → Look
+bit_read k es = seen is_read (λ o. flag (bit k o.answer.register)) bench es
 
 -- the fate of each load
 unfoldable pub fates : Look
-fates es = seen isLoad (λ o. o.answer.fate) bench es
+fates es = seen is_load (λ o. o.answer.fate) bench es
 
 -- the values moved by each tick and trigger
 unfoldable pub moved : Look
-moved es = seen isSignal (λ o. o.answer.moved) bench es
+moved es = seen is_signal (λ o. o.answer.moved) bench es
 
 -- at the end: the levels of channels 00, 01 and 02
 unfoldable pub levels : Look
@@ -116,16 +116,16 @@ table =
       session = on ∷ bor 0x0
           ∷ load 1 ∷ bor? ∷ load 2 ∷ bor? ∷ load 3 ∷ bor? ∷ load 4 ∷ bor?
           ∷ load 5 ∷ bor? ∷ load 6 ∷ bor? ∷ load 7 ∷ bor? ∷ load 8 ∷ bor? ∷ [];
-      sights = bitRead 13 shows (1 ∷ 0 ∷ 0 ∷ 0 ∷ 0 ∷ 0 ∷ 0 ∷ 0 ∷ [])
-          ∷ bitRead 14 shows (0 ∷ 0 ∷ 0 ∷ 0 ∷ 0 ∷ 1 ∷ 1 ∷ 1 ∷ [])
-          ∷ bitRead 15 shows (0 ∷ 0 ∷ 0 ∷ 0 ∷ 0 ∷ 0 ∷ 0 ∷ 1 ∷ [])
+      sights = bit_read 13 shows (1 ∷ 0 ∷ 0 ∷ 0 ∷ 0 ∷ 0 ∷ 0 ∷ 0 ∷ [])
+          ∷ bit_read 14 shows (0 ∷ 0 ∷ 0 ∷ 0 ∷ 0 ∷ 1 ∷ 1 ∷ 1 ∷ [])
+          ∷ bit_read 15 shows (0 ∷ 0 ∷ 0 ∷ 0 ∷ 0 ∷ 0 ∷ 0 ∷ 1 ∷ [])
           ∷ fates shows (1 ∷ 1 ∷ 1 ∷ 1 ∷ 1 ∷ 1 ∷ 1 ∷ 1 ∷ []) ∷ [];
     }
     -- "full and closed: a load gives fate 3 only": D15 and D17 are set, D16 is not, D10 says closed, and the list is as it was
     ∷ record {
       session = on ∷ bor 0x0 ∷ load 1 ∷ load 2 ∷ load 3 ∷ load 4 ∷ load 5 ∷ load 6 ∷ load 7 ∷ load 8 ∷ bor 0x100 ∷ load 9 ∷ bor? ∷ [];
       sights = fates shows (1 ∷ 1 ∷ 1 ∷ 1 ∷ 1 ∷ 1 ∷ 1 ∷ 1 ∷ 3 ∷ [])
-          ∷ bitRead 10 shows (0 ∷ []) ∷ bitRead 15 shows (1 ∷ []) ∷ bitRead 16 shows (0 ∷ []) ∷ bitRead 17 shows (1 ∷ [])
+          ∷ bit_read 10 shows (0 ∷ []) ∷ bit_read 15 shows (1 ∷ []) ∷ bit_read 16 shows (0 ∷ []) ∷ bit_read 17 shows (1 ∷ [])
           ∷ held shows (1 ∷ 2 ∷ 3 ∷ 4 ∷ 5 ∷ 6 ∷ 7 ∷ 8 ∷ []) ∷ [];
     }
     -- "two's complement 0001h, FFFFh, 8000h: levels 8001h, 7FFFh, 0000h"
@@ -142,7 +142,7 @@ table =
     ∷ record {
       session = on ∷ bcr 0x11 ∷ mask 1 ∷ bor 0x20 ∷ load 0xA000 ∷ load 0x1B000
           ∷ bcr? ∷ clk ∷ signal trigger ∷ bcr? ∷ clk ∷ bcr? ∷ clk ∷ bcr? ∷ [];
-      sights = moved shows (0 ∷ 0 ∷ 1 ∷ 1 ∷ []) ∷ bitRead 1 shows (1 ∷ 0 ∷ 0 ∷ 1 ∷ [])
+      sights = moved shows (0 ∷ 0 ∷ 1 ∷ 1 ∷ []) ∷ bit_read 1 shows (1 ∷ 0 ∷ 0 ∷ 1 ∷ [])
           ∷ levels shows (0xB000 ∷ 0x8000 ∷ 0x8000 ∷ []) ∷ held shows [] ∷ [];
     }
     -- "closed 1, 2, 3+EOF: three ticks leave 1, 2, 3."
@@ -155,7 +155,7 @@ table =
     ∷ record {
       session = on ∷ mask 1 ∷ load 1 ∷ load 2 ∷ load 0x10003 ∷ bor 0x320 ∷ clk ∷ clk ∷ bor? ∷ clk ∷ bor?
           ∷ load 7 ∷ load 0x10008 ∷ clk ∷ clk ∷ clk ∷ bor? ∷ [];
-      sights = moved shows (1 ∷ 1 ∷ 1 ∷ 1 ∷ 1 ∷ 1 ∷ []) ∷ bitRead 9 shows (1 ∷ 1 ∷ 0 ∷ []) ∷ bitRead 10 shows (0 ∷ 1 ∷ 0 ∷ [])
+      sights = moved shows (1 ∷ 1 ∷ 1 ∷ 1 ∷ 1 ∷ 1 ∷ []) ∷ bit_read 9 shows (1 ∷ 1 ∷ 0 ∷ []) ∷ bit_read 10 shows (0 ∷ 1 ∷ 0 ∷ [])
           ∷ fates shows (1 ∷ 1 ∷ 1 ∷ 1 ∷ 1 ∷ []) ∷ held shows (7 ∷ 0x10008 ∷ []) ∷ [];
     }
     -- "mask 0: a tick moves 0"
@@ -167,7 +167,7 @@ table =
     ∷ record {
       session = on ∷ bor 0x1 ∷ load 1 ∷ load 2 ∷ load 3 ∷ load 4 ∷ load 5 ∷ load 6 ∷ load 7 ∷ load 8 ∷ load 9 ∷ load 10
           ∷ bor? ∷ bor 0x0 ∷ bor? ∷ load 11 ∷ bor? ∷ [];
-      sights = bitRead 15 shows (0 ∷ 1 ∷ 1 ∷ []) ∷ bitRead 16 shows (0 ∷ 0 ∷ 1 ∷ [])
+      sights = bit_read 15 shows (0 ∷ 1 ∷ 1 ∷ []) ∷ bit_read 16 shows (0 ∷ 0 ∷ 1 ∷ [])
           ∷ fates shows (1 ∷ 1 ∷ 1 ∷ 1 ∷ 1 ∷ 1 ∷ 1 ∷ 1 ∷ 1 ∷ 1 ∷ 2 ∷ [])
           ∷ held shows (1 ∷ 2 ∷ 3 ∷ 4 ∷ 5 ∷ 6 ∷ 7 ∷ 8 ∷ 9 ∷ 10 ∷ []) ∷ [];
     }

@@ -2,7 +2,7 @@
 --   bit k v         bit k of v; the manual's Dk
 --   bits_of n v      the n lowest bits of v, D00 first
 --   number bs       the number whose bits are bs, D00 first
---   activeFrom k m  the channels from k up to 19 whose bit of the mask m is set, ascending
+--   active_from k m  the channels from k up to 19 whose bit of the mask m is set, ascending
 --   all, some       every one, at least one of a list of tests
 --   only_if a b      a only if b
 use Rattle.std.specs.Prelude.{ℕ, zero, suc, ◌+◌, ◌*◌, ◌/◌, ◌%◌, ◌^◌, ◌-◌, ◌≡◌, refl, Bool, true, false, ◌&&◌, ◌||◌, cond, List, [], ◌∷◌, eqb}
@@ -24,9 +24,9 @@ unfoldable pub number : List Bool → ℕ
 number [] = 0
 number (b ∷ bs) = flag b + 2 * number bs
 
-example-number : number (bits_of 4 6) ≡ 6
+example_number : number (bits_of 4 6) ≡ 6
 unfolding number bits_of flag
-example-number = refl
+example_number = refl
 
 -- ---- Channels
 
@@ -35,12 +35,12 @@ unfoldable pub active : ℕ → ℕ → ℕ → List ℕ
 active zero k mask = []
 active (suc n) k mask = cond (bit k mask) (k ∷ active n (suc k) mask) (active n (suc k) mask)
 
-abbrev pub activeFrom : ℕ → ℕ → List ℕ
-activeFrom k mask = active (20 - k) k mask
+abbrev pub active_from : ℕ → ℕ → List ℕ
+active_from k mask = active (20 - k) k mask
 
-example-active : activeFrom 3 0x50008 ≡ 3 ∷ 16 ∷ 18 ∷ []
+example_active : active_from 3 0x50008 ≡ 3 ∷ 16 ∷ 18 ∷ []
 unfolding active
-example-active = refl
+example_active = refl
 
 unfoldable pub head_or : ℕ → List ℕ → ℕ
 head_or d [] = d

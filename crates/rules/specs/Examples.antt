@@ -1,16 +1,16 @@
 -- Sessions beside 01's bench: a row for each rule that neither its cases nor a law of this crate reach, and rows for what a request of
 -- 02 changed (`Examples`; its proof is in proofs/Bench.antt).
 use Rattle.std.specs.Prelude.{ℕ, true, List, [], ◌∷◌, replicate}
-use Rattle.rules.specs.Types.{Event, powerUp, read, signal, trigger}
+use Rattle.rules.specs.Types.{Event, power_up, read, signal, trigger}
 use Rattle.rules.specs.Record.{State, state_of}
 use Rattle.rules.specs.Session.{after}
-use Rattle.rules.specs.Bench.{on, bcr, mask, bor, load, bcr?, bor?, clk, Look, bench, seen, isRead, bitRead, moved, levels, held, ◌shows◌, Case, AllCases}
+use Rattle.rules.specs.Bench.{on, bcr, mask, bor, load, bcr?, bor?, clk, Look, bench, seen, is_read, bit_read, moved, levels, held, ◌shows◌, Case, AllCases}
 
 -- ---- Events and looks
 
 -- power-up with a fitted code, range, filter, kit and firmware
 abbrev pub up : ℕ → ℕ → ℕ → ℕ → ℕ → Event
-up d range filter kit firmware = powerUp (record { fitted = d; range = range; filter = filter; kit = kit; firmware = firmware })
+up d range filter kit firmware = power_up (record { fitted = d; range = range; filter = filter; kit = kit; firmware = firmware })
 
 -- power-up with a depth of 8 values
 abbrev pub shallow : Event
@@ -21,18 +21,18 @@ unfoldable pub entries : Look
 entries es = (after bench es).memory
 
 -- the same after one more tick, for which every entry of the memory is made 20005h: bit 17, and the value 5
-unfoldable pub entriesOverJunk : Look
-entriesOverJunk es =
+unfoldable pub entries_over_junk : Look
+entries_over_junk es =
     let s : State = after bench es in
     (after (state_of s.board (replicate 16 0x20005)) (clk ∷ [])).memory
 
 -- what each read finds
 unfoldable pub readings : Look
-readings es = seen isRead (λ o. o.answer.register) bench es
+readings es = seen is_read (λ o. o.answer.register) bench es
 
 -- the values moved by each event
-unfoldable pub allMoved : Look
-allMoved es = seen (λ e. true) (λ o. o.answer.moved) bench es
+unfoldable pub all_moved : Look
+all_moved es = seen (λ e. true) (λ o. o.answer.moved) bench es
 
 -- the refusal of each event
 unfoldable pub refusals : Look
@@ -45,17 +45,17 @@ examples =
     -- "if any carried EOF": the second of a group of two does; "a burst ends", and D1 is 1 again
     record {
       session = on ∷ bcr 0x91 ∷ mask 3 ∷ bor 0x20 ∷ load 1 ∷ load 0x10002 ∷ signal trigger ∷ clk ∷ bcr? ∷ [];
-      sights = bitRead 1 shows (1 ∷ []) ∷ [];
+      sights = bit_read 1 shows (1 ∷ []) ∷ [];
     }
     -- "once: .. pending becomes opened", and not closed again by the second EOF of the group: D10 is 1
     ∷ record {
       session = on ∷ bcr 0x90 ∷ mask 3 ∷ load 0x10001 ∷ load 0x10002 ∷ bor 0x320 ∷ clk ∷ bor? ∷ [];
-      sights = bitRead 10 shows (1 ∷ []) ∷ [];
+      sights = bit_read 10 shows (1 ∷ []) ∷ [];
     }
     -- an empty buffer ends no burst (DECISIONS 1): its last value moved without EOF, and D1 stays 0
     ∷ record {
       session = on ∷ bcr 0x11 ∷ mask 1 ∷ bor 0x20 ∷ load 0xA000 ∷ signal trigger ∷ clk ∷ bcr? ∷ [];
-      sights = bitRead 1 shows (0 ∷ []) ∷ [];
+      sights = bit_read 1 shows (0 ∷ []) ∷ [];
     }
     -- a clock moves what is stored, though it is more than the active size: nine values, the size cut from 16 to 8
     ∷ record {
@@ -76,7 +76,7 @@ examples =
     -- "the rest of a written entry is 0", a recirculated value's too; and no other entry is written
     ∷ record {
       session = on ∷ mask 1 ∷ load 5 ∷ bor 0x120 ∷ [];
-      sights = entriesOverJunk shows (0x20005 ∷ 0x5 ∷ replicate 14 0x20005) ∷ [];
+      sights = entries_over_junk shows (0x20005 ∷ 0x5 ∷ replicate 14 0x20005) ∷ [];
     }
     -- "A value is stored at (first + count) mod depth", "Entries from depth upward are never touched": a depth of 8, the ninth value
     -- after one has left
@@ -92,11 +92,11 @@ examples =
     -- the software clock sees the bits just written (DECISIONS 15): they enable it, and they disable it
     ∷ record {
       session = on ∷ mask 1 ∷ load 5 ∷ bor 0xB0 ∷ [];
-      sights = allMoved shows (0 ∷ 0 ∷ 0 ∷ 1 ∷ []) ∷ [];
+      sights = all_moved shows (0 ∷ 0 ∷ 0 ∷ 1 ∷ []) ∷ [];
     }
     ∷ record {
       session = on ∷ mask 1 ∷ bor 0x30 ∷ load 5 ∷ bor 0x90 ∷ [];
-      sights = allMoved shows (0 ∷ 0 ∷ 0 ∷ 0 ∷ 0 ∷ []) ∷ [];
+      sights = all_moved shows (0 ∷ 0 ∷ 0 ∷ 0 ∷ 0 ∷ []) ∷ [];
     }
     -- "else to the lowest active one": past channel 19 the turn begins again at channel 01
     ∷ record {
@@ -106,14 +106,14 @@ examples =
     -- initialise and loads answer moved 0, with values stored and channels active
     ∷ record {
       session = on ∷ load 5 ∷ load 6 ∷ bcr 0x8000 ∷ [];
-      sights = allMoved shows (0 ∷ 0 ∷ 0 ∷ 0 ∷ []) ∷ [];
+      sights = all_moved shows (0 ∷ 0 ∷ 0 ∷ 0 ∷ []) ∷ [];
     }
     -- the overflow flags stay under clocks and loads, whatever becomes of these: D16 set by the ninth load, D17 by the next into the
     -- closed buffer; read after a clock that recirculates, after one that discards and a load that is stored, and after another loss
     ∷ record {
       session = on ∷ bor 0x0 ∷ load 1 ∷ load 2 ∷ load 3 ∷ load 4 ∷ load 5 ∷ load 6 ∷ load 7 ∷ load 8 ∷ load 9
           ∷ bor 0x10120 ∷ load 10 ∷ clk ∷ bor? ∷ bor 0x30020 ∷ clk ∷ load 11 ∷ bor? ∷ load 12 ∷ bor? ∷ [];
-      sights = bitRead 16 shows (1 ∷ 1 ∷ 1 ∷ []) ∷ bitRead 17 shows (1 ∷ 1 ∷ 1 ∷ []) ∷ [];
+      sights = bit_read 16 shows (1 ∷ 1 ∷ 1 ∷ []) ∷ bit_read 17 shows (1 ∷ 1 ∷ 1 ∷ []) ∷ [];
     }
     -- 02, 2026-02: "1 now means the fitted code only; 14 range, 15 filter, 16 kit, 17 firmware": each setting bad alone, at the first
     -- number out of its range, and the record stays as it was, unpowered
@@ -133,7 +133,7 @@ examples =
     ∷ record {
       session = on ∷ bor 0x20 ∷ bcr 0x410 ∷ load 1 ∷ load 2 ∷ load 3 ∷ load 4 ∷ load 5 ∷ bcr? ∷ load 6 ∷ bcr? ∷ load 7 ∷ bcr?
           ∷ clk ∷ bcr? ∷ clk ∷ bcr? ∷ [];
-      sights = bitRead 11 shows (0 ∷ 1 ∷ 1 ∷ 1 ∷ 0 ∷ []) ∷ held shows (3 ∷ 4 ∷ 5 ∷ 6 ∷ 7 ∷ []) ∷ [];
+      sights = bit_read 11 shows (0 ∷ 1 ∷ 1 ∷ 1 ∷ 0 ∷ []) ∷ held shows (3 ∷ 4 ∷ 5 ∷ 6 ∷ 7 ∷ []) ∷ [];
     }
     ∷ []
 

@@ -1,6 +1,6 @@
 -- The board record and its memory (01, "The board record and its memory").
 --   State        a board record with its lent sample memory; state_of puts the two together
---   depth b      how many values fit the board; activeSize s: how many the active buffer holds
+--   depth b      how many values fit the board; active_size s: how many the active buffer holds
 --   stored s     the stored values in order, the oldest first
 --   sound b      01's list, clause by clause
 --   unpowered    the record that a run starts from
@@ -18,17 +18,17 @@ state_of board memory = record { board = board; memory = memory }
 -- ---- Settings
 
 -- 01: "a fitted code d (0 to 15), range, filter and kit codes (0 to 2) and a firmware number (0 to 4095)"
-abbrev pub fittedInRange : ℕ → Bool
-fittedInRange d = leb d 15
+abbrev pub fitted_in_range : ℕ → Bool
+fitted_in_range d = leb d 15
 
-abbrev pub codeInRange : ℕ → Bool
-codeInRange n = leb n 2
+abbrev pub code_in_range : ℕ → Bool
+code_in_range n = leb n 2
 
-abbrev pub firmwareInRange : ℕ → Bool
-firmwareInRange n = leb n 4095
+abbrev pub firmware_in_range : ℕ → Bool
+firmware_in_range n = leb n 4095
 
-unfoldable pub optionsInRange : Options → Bool
-optionsInRange o = all (codeInRange o.range ∷ codeInRange o.filter ∷ codeInRange o.kit ∷ firmwareInRange o.firmware ∷ [])
+unfoldable pub options_in_range : Options → Bool
+options_in_range o = all (code_in_range o.range ∷ code_in_range o.filter ∷ code_in_range o.kit ∷ firmware_in_range o.firmware ∷ [])
 
 -- ---- Sizes
 
@@ -40,8 +40,8 @@ abbrev pub depth : Board → ℕ
 depth b = depth_of b.size.fitted
 
 -- 01: "The active size is 8·2^m, where m is the lesser of size code and d."
-unfoldable pub activeSize : Size → ℕ
-activeSize s = 8 * 2 ^ min s.code s.fitted
+unfoldable pub active_size : Size → ℕ
+active_size s = 8 * 2 ^ min s.code s.fitted
 
 -- 01: "kit 0: 6 channels, 1: 12, 2: 20"
 unfoldable pub channels : ℕ → ℕ
@@ -50,29 +50,29 @@ channels kit = cond (eqb kit 0) 6 (cond (eqb kit 1) 12 20)
 -- ---- Stored values
 
 -- 01: "one value each: bits 15..0 data, bit 16 the end-of-frame mark (EOF). Only those 17 bits are used or written"
-abbrev pub valueSpan : ℕ
-valueSpan = 2 ^ 17
+abbrev pub value_span : ℕ
+value_span = 2 ^ 17
 
-abbrev pub levelSpan : ℕ
-levelSpan = 2 ^ 16
+abbrev pub level_span : ℕ
+level_span = 2 ^ 16
 
 -- `count` values from the entry `first` on, wrapping at the depth
 unfoldable pub values : ℕ → ℕ → ℕ → List ℕ → List ℕ
 values depth first zero memory = []
-values depth first (suc count) memory = get_or memory first 0 % valueSpan ∷ values depth ((first + 1) % depth) count memory
+values depth first (suc count) memory = get_or memory first 0 % value_span ∷ values depth ((first + 1) % depth) count memory
 
 unfoldable pub stored : State → List ℕ
 stored s = values (depth s.board) s.board.ring.first s.board.ring.count s.memory
 
 -- ---- Soundness
 
--- 01: "A record is sound when: .." The clauses that speak of sizes and places are in soundRing.
-unfoldable pub soundCore : Core → Bool
-soundCore c =
+-- 01: "A record is sound when: .." The clauses that speak of sizes and places are in sound_ring.
+unfoldable pub sound_core : Core → Bool
+sound_core c =
     all (
     -- "powered; settings in range"
     c.powered
-    ∷ optionsInRange c.options
+    ∷ options_in_range c.options
     -- "no mask bit for a channel that isn't fitted"
     ∷ ltb c.outputs.mask (2 ^ channels c.options.kit)
     -- "channel cursor ≤ 20, and 0 in simultaneous mode"
@@ -92,17 +92,17 @@ soundCore c =
     ∷ [])
 
 -- "settings in range" (the fitted code); "size code ≤ 15"; "first < depth; count ≤ depth"
-unfoldable pub soundRing : Size → Ring → Bool
-soundRing s r =
+unfoldable pub sound_ring : Size → Ring → Bool
+sound_ring s r =
     all (
-    fittedInRange s.fitted
+    fitted_in_range s.fitted
     ∷ leb s.code 15
     ∷ ltb r.first (depth_of s.fitted)
     ∷ leb r.count (depth_of s.fitted)
     ∷ [])
 
 unfoldable pub sound : Board → Bool
-sound b = soundCore b.core && soundRing b.size b.ring
+sound b = sound_core b.core && sound_ring b.size b.ring
 
 -- ---- The unpowered record
 

@@ -1,24 +1,24 @@
 -- The registers as the bus reads them (manual tables 3.2-1, 3.4-2, 3.4-5, 3.4-7, 3.10-1, 3.11-1; 01, "Registers").
 -- A register is its list of bits, D00 first, a row each with the manual's designation; a field of several bits is a row too.
 --   registers      the map: each register's offset and bits, in the manual's order (table 3.1-1)
---   readAt b o     what is read from b at the offset o
+--   read_at b o     what is read from b at the offset o
 use Rattle.std.specs.Prelude.{ℕ, Bool, false, not, ◌||◌, cond, List, [], ◌∷◌, ◌++◌, map, eqb, replicate}
 use Rattle.rules.specs.Types.{Board}
 use Rattle.rules.specs.Bits.{bits_of, number, some}
-use Rattle.rules.specs.Clocks.{closed, clockReady, burstReady}
-use Rattle.rules.specs.Flags.{is_empty, isLow, isHigh, isFull}
+use Rattle.rules.specs.Clocks.{closed, clock_ready, burst_ready}
+use Rattle.rules.specs.Flags.{is_empty, is_low, is_high, is_full}
 
 -- 01: "Reserved bits read 0 and are ignored"
 abbrev pub reserved : ℕ → List Bool
 reserved n = replicate n false
 
 -- 00h, the board control register, BCR
-unfoldable pub controlBits : Board → List Bool
-controlBits b =
+unfoldable pub control_bits : Board → List Bool
+control_bits b =
     -- D00      BURST ENABLED           r/w
     b.core.control.bursts
     -- D01      BURST READY             r    01: "D1 = enabled and no burst"
-    ∷ burstReady b.core
+    ∷ burst_ready b.core
     -- D02      BURST TRIGGER           r/w  01: "D2 = software-started burst"
     ∷ b.core.burst.software
     -- D03      REMOTE GROUND SENSE     r/w
@@ -46,20 +46,20 @@ controlBits b =
     ∷ []
 
 -- 04h, channel selection
-unfoldable pub maskBits : Board → List Bool
-maskBits b =
+unfoldable pub mask_bits : Board → List Bool
+mask_bits b =
     -- D00-D19  ENABLE CHANNEL 00-19    r/w
     bits_of 20 b.core.outputs.mask
 
 -- 08h, sample rate
-unfoldable pub rateBits : Board → List Bool
-rateBits b =
+unfoldable pub rate_bits : Board → List Bool
+rate_bits b =
     -- D00-D15  RATE 00-15              r/w
     bits_of 16 b.core.clock.divisor
 
 -- 0Ch, buffer operations, BOR
-unfoldable pub bufferBits : Board → List Bool
-bufferBits b =
+unfoldable pub buffer_bits : Board → List Bool
+buffer_bits b =
     -- D00-D03  SIZE 00-03              r/w
     bits_of 4 b.size.code
     -- D04      EXTERNAL CLOCK          r/w
@@ -67,7 +67,7 @@ bufferBits b =
     -- D05      ENABLE CLOCK            r/w
     ∷ b.core.mode.enabled
     -- D06      CLOCK READY             r    01: "D6 reads EXTERNAL and neither settling nor calibrating"
-    ∷ clockReady b.core
+    ∷ clock_ready b.core
     -- D07      SW CLOCK                w    01: "BOR D7 and D11 read 0"
     ∷ false
     -- D08      CIRCULAR BUFFER         r/w
@@ -81,11 +81,11 @@ bufferBits b =
     -- D12      BUFFER EMPTY            r    01: "D12 to D15 are read-only"
     ∷ is_empty b.ring.count
     -- D13      BUFFER LOW QUARTER      r
-    ∷ isLow b.size b.ring.count
+    ∷ is_low b.size b.ring.count
     -- D14      BUFFER HIGH QUARTER     r
-    ∷ isHigh b.size b.ring.count
+    ∷ is_high b.size b.ring.count
     -- D15      BUFFER FULL             r
-    ∷ isFull b.size b.ring.count
+    ∷ is_full b.size b.ring.count
     -- D16      BUFFER OVERFLOW         r/w
     ∷ b.core.lost.full
     -- D17      FRAME OVERFLOW          r/w
@@ -93,8 +93,8 @@ bufferBits b =
     ∷ []
 
 -- 10h, firmware and options
-unfoldable pub optionBits : Board → List Bool
-optionBits b =
+unfoldable pub option_bits : Board → List Bool
+option_bits b =
     -- D00-D11  Firmware revision       r    01: "10h is firmware in D11..0, range D17..16, filter D19..18, kit D21..20"
     bits_of 12 b.core.options.firmware
     -- D12-D15  (Reserved)
@@ -107,8 +107,8 @@ optionBits b =
     ++ bits_of 2 b.core.options.kit
 
 -- 1Ch, adjustable clock
-unfoldable pub adjustBits : Board → List Bool
-adjustBits b =
+unfoldable pub adjust_bits : Board → List Bool
+adjust_bits b =
     -- D00-D08  CLOCK RATE (Nclk)       r/w
     bits_of 9 b.core.clock.nclk
     -- D09      SELECT ALTERNATE REFERENCE r/w
@@ -127,23 +127,23 @@ pub record Register : Type 0 where
 
 unfoldable pub registers : List Register
 registers =
-    record { offset = 0x00; bits = controlBits }
-    ∷ record { offset = 0x04; bits = maskBits }
-    ∷ record { offset = 0x08; bits = rateBits }
-    ∷ record { offset = 0x0C; bits = bufferBits }
-    ∷ record { offset = 0x10; bits = optionBits }
+    record { offset = 0x00; bits = control_bits }
+    ∷ record { offset = 0x04; bits = mask_bits }
+    ∷ record { offset = 0x08; bits = rate_bits }
+    ∷ record { offset = 0x0C; bits = buffer_bits }
+    ∷ record { offset = 0x10; bits = option_bits }
     ∷ record { offset = 0x14; bits = nothing }
     ∷ record { offset = 0x18; bits = nothing }
-    ∷ record { offset = 0x1C; bits = adjustBits }
+    ∷ record { offset = 0x1C; bits = adjust_bits }
     ∷ []
 
 -- 01: "offset other than 00, 04, 08, 0C, 10, 14, 18, 1C (hex)" is what this denies
-unfoldable pub isOffset : ℕ → Bool
-isOffset o = some (map (λ (r : Register). eqb o r.offset) registers)
+unfoldable pub is_offset : ℕ → Bool
+is_offset o = some (map (λ (r : Register). eqb o r.offset) registers)
 
-unfoldable pub readFrom : List Register → Board → ℕ → ℕ
-readFrom [] b o = 0
-readFrom (r ∷ rs) b o = cond (eqb o r.offset) (number (r.bits b)) (readFrom rs b o)
+unfoldable pub read_from : List Register → Board → ℕ → ℕ
+read_from [] b o = 0
+read_from (r ∷ rs) b o = cond (eqb o r.offset) (number (r.bits b)) (read_from rs b o)
 
-abbrev pub readAt : Board → ℕ → ℕ
-readAt b o = readFrom registers b o
+abbrev pub read_at : Board → ℕ → ℕ
+read_at b o = read_from registers b o

@@ -5,7 +5,7 @@ use Rattle.std.specs.Prelude.{◌≡◌}
 
 pub record ToldInNumbers {A N : Type 0} (numbers : A → N) (x r : A) : Type 0 where
   pub told : r ≡ x
-  pub in-numbers : numbers r ≡ numbers x
+  pub in_numbers : numbers r ≡ numbers x
 
 -- Any two answers that it allows are equal. The proof is in proofs/Equal.antt.
 abbrev pub ToldInNumbers-unique : Type 1

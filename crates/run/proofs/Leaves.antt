@@ -18,11 +18,11 @@ pub record Leaves (o : Finish) (st : State) (x : Session) : Type 0 where
   pub end : o.end ≡ x.end
 
 -- an event that is played
-pub leaves-played : (st : State) (e : Event) → Passes Leaves st e (step st e).state
+pub leaves_played : (st : State) (e : Event) → Passes Leaves st e (step st e).state
 unfolding after
-leaves-played st e o x l = record { state = l.state; end = l.end }
+leaves_played st e o x l = record { state = l.state; end = l.end }
 
 -- and the end of the file
-pub leaves-ended : (st : State) (x : End) → Leaves (record { state = st; end = x }) st (record { events = []; end = x })
+pub leaves_ended : (st : State) (x : End) → Leaves (record { state = st; end = x }) st (record { events = []; end = x })
 unfolding after
-leaves-ended st x = record { state = refl; end = refl }
+leaves_ended st x = record { state = refl; end = refl }

@@ -9,18 +9,18 @@ use Rattle.run.specs.declared.Cursor.{Cursor}
 use Rattle.run.specs.declared.Advanced.{Advanced}
 use Rattle.run.specs.declared.Ran.{Ran}
 use Rattle.run.specs.Run.{advanced}
-use Rattle.run.specs.Numbers.{progressNumbers}
+use Rattle.run.specs.Numbers.{progress_numbers}
 
 -- one record of the file s
 pub record Advances (s : List ℕ) (c : Cursor) (b : Board) (m : List ℕ) (r : Advanced) (m' : List ℕ) : Type 0 where
   pub progress : r.progress ≡ (advanced s c (state_of b m)).progress
-  pub in-numbers : progressNumbers r.progress ≡ progressNumbers (advanced s c (state_of b m)).progress
+  pub in_numbers : progress_numbers r.progress ≡ progress_numbers (advanced s c (state_of b m)).progress
   pub board : r.board ≡ (advanced s c (state_of b m)).state.board
   pub memory : m' ≡ (advanced s c (state_of b m)).state.memory
 
 -- the whole file: what its events leave, one after another, and how it ends
 pub record Runs (s m : List ℕ) (r : Ran) (m' : List ℕ) : Type 0 where
   pub end : r.end ≡ (session s).end
-  pub in-numbers : verdict r.end ≡ verdict (session s).end
+  pub in_numbers : verdict r.end ≡ verdict (session s).end
   pub board : r.board ≡ (after (start m) (session s).events).board
   pub memory : m' ≡ (after (start m) (session s).events).memory

@@ -24,9 +24,9 @@ pub record Stage : Type 0 where
   pub progress : Progress
   pub state : State
 
-abbrev pub onAhead : State → Ahead → Stage
-onAhead st (Found e after) = record { progress = Played (step st e).answer after; state = (step st e).state }
-onAhead st (Over x) = record { progress = Ended x; state = st }
+abbrev pub on_ahead : State → Ahead → Stage
+on_ahead st (Found e after) = record { progress = Played (step st e).answer after; state = (step st e).state }
+on_ahead st (Over x) = record { progress = Ended x; state = st }
 
 unfoldable pub advanced : List ℕ → Cursor → State → Stage
-advanced s c st = onAhead st (found s c)
+advanced s c st = on_ahead st (found s c)

@@ -6,7 +6,7 @@ ghost use Rattle.rules.specs.Told.{Told};
 ghost use Rattle.rules.specs.ToldInNumbers.{ToldInNumbers};
 ghost use Rattle.run.specs.Promises.{Advances, Runs};
 ghost use Rattle.run.specs.Run.{found};
-ghost use Rattle.run.specs.Numbers.{aheadNumbers};
+ghost use Rattle.run.specs.Numbers.{ahead_numbers};
 
 use board::step;
 use file_rules::{End, Item};
@@ -49,7 +49,7 @@ pub struct Ran {
 
 // The event at the cursor, or how the file ends.
 pub fn next(s: &[u8], c: Cursor) -> Ahead
-    ensures { ToldInNumbers aheadNumbers (found s.now c) result }
+    ensures { ToldInNumbers ahead_numbers (found s.now c) result }
 {
     let item = read_at(s, c.place);
     match item {

@@ -9,38 +9,38 @@ use Rattle.rules.specs.declared.Signal.TheVariants.{Tick}
 use Rattle.rules.specs.declared.Event.{Event}
 use Rattle.rules.specs.declared.Event.TheVariants.{Write, Signal as signal}
 use Rattle.file_rules.specs.declared.Item.TheVariants.{Got}
-use Rattle.file_rules.specs.File.{byte_at, word_at, quadAt, signalOf, eventAt, item_at, eventOf}
+use Rattle.file_rules.specs.File.{byte_at, word_at, quad_at, signal_of, event_at, item_at, event_of}
 use Rattle.file_rules.specs.Laws.{Known, Whole, event, later}
 use Rattle.file_rules.specs.Laws.{write as writeKnown, signal as signalKnown}
-use Rattle.file_rules.proofs.Given.{item-exactly}
+use Rattle.file_rules.proofs.Given.{item_exactly}
 
 -- a whole record of a known kind, from place 1 on, is the event that its bytes say
-got-at : (s : List ℕ) (at : ℕ) → at ≢ 0 → Whole s at → Known (byte_at s (at + 2)) (word_at s at)
-    → item_at s at ≡ Got (eventAt s (at + 2)) (at + 2 + word_at s at)
-got-at s zero n w k = absurd (n refl)
-got-at s (suc at) n w k = (item-exactly s (suc at) _).1 (later at _ (event w k))
+got_at : (s : List ℕ) (at : ℕ) → at ≢ 0 → Whole s at → Known (byte_at s (at + 2)) (word_at s at)
+    → item_at s at ≡ Got (event_at s (at + 2)) (at + 2 + word_at s at)
+got_at s zero n w k = absurd (n refl)
+got_at s (suc at) n w k = (item_exactly s (suc at) _).1 (later at _ (event w k))
 
-tick-event : (s : List ℕ) (at : ℕ) → byte_at s at ≡ 4 → ◌≡◌ {A = Event} (eventAt s at) (signal Tick)
-unfolding eventAt eventOf signalOf
-tick-event s at k = rw k
+tick_event : (s : List ℕ) (at : ℕ) → byte_at s at ≡ 4 → ◌≡◌ {A = Event} (event_at s at) (signal Tick)
+unfolding event_at event_of signal_of
+tick_event s at k = rw k
 
-load-event : (s : List ℕ) (at : ℕ) → byte_at s at ≡ 2 → ◌≡◌ {A = Event} (eventAt s at) (Write (byte_at s (at + 1)) (quadAt s (at + 2)))
-unfolding eventAt eventOf
-load-event s at k = rw k
+load_event : (s : List ℕ) (at : ℕ) → byte_at s at ≡ 2 → ◌≡◌ {A = Event} (event_at s at) (Write (byte_at s (at + 1)) (quad_at s (at + 2)))
+unfolding event_at event_of
+load_event s at k = rw k
 
-pub tick-stands : (s : List ℕ) (at : ℕ) → at ≢ 0 → at + 3 ≤ length s → word_at s at ≡ 1 → byte_at s (at + 2) ≡ 4
+pub tick_stands : (s : List ℕ) (at : ℕ) → at ≢ 0 → at + 3 ≤ length s → word_at s at ≡ 1 → byte_at s (at + 2) ≡ 4
     → item_at s at ≡ Got (signal Tick) (at + 3)
-tick-stands s at n l w k =
+tick_stands s at n l w k =
     let p : at + 2 + word_at s at ≡ at + 3 = omega (arith, w) in
-    got-at s at n (omega (arith, w)) (rw (w, k) (signalKnown 4 (omega arith) (omega arith)))
-    ∙ (λ i. Got (tick-event s (at + 2) k i) (p i))
+    got_at s at n (omega (arith, w)) (rw (w, k) (signalKnown 4 (omega arith) (omega arith)))
+    ∙ (λ i. Got (tick_event s (at + 2) k i) (p i))
 
-pub load-stands : (s : List ℕ) (at : ℕ) → at ≢ 0 → at + 8 ≤ length s → word_at s at ≡ 6 → byte_at s (at + 2) ≡ 2 → byte_at s (at + 3) ≡ 24
-    → item_at s at ≡ Got (Write 24 (quadAt s (at + 4))) (at + 8)
-load-stands s at n l w k o =
+pub load_stands : (s : List ℕ) (at : ℕ) → at ≢ 0 → at + 8 ≤ length s → word_at s at ≡ 6 → byte_at s (at + 2) ≡ 2 → byte_at s (at + 3) ≡ 24
+    → item_at s at ≡ Got (Write 24 (quad_at s (at + 4))) (at + 8)
+load_stands s at n l w k o =
     let p : at + 2 + word_at s at ≡ at + 8 = omega (arith, w) in
     let q : at + 2 + 1 ≡ at + 3 = omega arith in
     let r : at + 2 + 2 ≡ at + 4 = omega arith in
     let offset = ap (byte_at s) q ∙ o in
-    got-at s at n (omega (arith, w)) (rw (w, k) writeKnown)
-    ∙ (λ i. Got ((load-event s (at + 2) k ∙ (λ j. Write (offset j) (quadAt s (r j)))) i) (p i))
+    got_at s at n (omega (arith, w)) (rw (w, k) writeKnown)
+    ∙ (λ i. Got ((load_event s (at + 2) k ∙ (λ j. Write (offset j) (quad_at s (r j)))) i) (p i))

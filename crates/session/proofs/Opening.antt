@@ -7,23 +7,23 @@ use native.Mathlib.Omega.{arith}
 use borrow.Author.Tests.{eqb-true, ne_eqb, not-true, not-false}
 use lib.Dec.{eqb}
 use lib.ListN.{length}
-use Rattle.rules.proofs.Choice.{and_both, cond-true, cond-false}
+use Rattle.rules.proofs.Choice.{and_both, cond_true, cond_false}
 use Rattle.file_rules.specs.declared.Fault.TheVariants.{Version}
 use Rattle.file_rules.specs.declared.End.TheVariants.{Refused}
 use Rattle.file_rules.specs.declared.Item.TheVariants.{Over}
-use Rattle.file_rules.specs.File.{byte_at, recordAt, item_at}
+use Rattle.file_rules.specs.File.{byte_at, record_at, item_at}
 
 -- an empty file has no first byte
-pub no-first : (s : List ℕ) → length s ≡ zero → eqb (byte_at s 0) 1 ≡ false
-no-first [] h = refl
-no-first (x ∷ xs) h = absurd (omega arith)
+pub no_first : (s : List ℕ) → length s ≡ zero → eqb (byte_at s 0) 1 ≡ false
+no_first [] h = refl
+no_first (x ∷ xs) h = absurd (omega arith)
 
 pub not_opened : (s : List ℕ) (at : ℕ) → eqb at 0 && not (eqb (byte_at s 0) 1) ≡ true → item_at s at ≡ Over (Refused Version 0)
 unfolding item_at
-not_opened s zero h = cond-false _ _ _ (not-true (eqb (byte_at s 0) 1) h)
+not_opened s zero h = cond_false _ _ _ (not-true (eqb (byte_at s 0) 1) h)
 not_opened s (suc at) h = absurd (omega (arith, eqb-true (suc at) 0 (and_both (eqb (suc at) 0) _ h).0))
 
-pub opened : (s : List ℕ) (at : ℕ) → eqb at 0 && not (eqb (byte_at s 0) 1) ≡ false → item_at s at ≡ recordAt s (cond (eqb at 0) 1 at)
+pub opened : (s : List ℕ) (at : ℕ) → eqb at 0 && not (eqb (byte_at s 0) 1) ≡ false → item_at s at ≡ record_at s (cond (eqb at 0) 1 at)
 unfolding item_at
-opened s zero h = cond-true _ _ _ (not-false (eqb (byte_at s 0) 1) h)
-opened s (suc at) h = ap (recordAt s) (sym (cond-false _ _ _ (ne_eqb (suc at) 0 (λ e. absurd (omega (arith, e))))))
+opened s zero h = cond_true _ _ _ (not-false (eqb (byte_at s 0) 1) h)
+opened s (suc at) h = ap (record_at s) (sym (cond_false _ _ _ (ne_eqb (suc at) 0 (λ e. absurd (omega (arith, e))))))

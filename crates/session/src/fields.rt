@@ -1,6 +1,6 @@
 // The numbers and events in a file's bytes.
 ghost use Rattle.std.specs.Prelude.{◌+◌, ◌<◌, ◌≤◌, ◌≡◌, length};
-ghost use Rattle.file_rules.specs.File.{byte_at, word_at, quadAt, length_of, settingsAt, eventAt};
+ghost use Rattle.file_rules.specs.File.{byte_at, word_at, quad_at, length_of, settings_at, event_at};
 
 use kinds::signal_of;
 use rules::{Event, Settings};
@@ -27,14 +27,14 @@ pub(crate) fn word_at(s: &[u8], at: usize) -> u32
 
 pub(crate) fn quad_at(s: &[u8], at: usize) -> u32
     requires { at + 4 ≤ length s.now }
-    ensures { result ≡ quadAt s.now at }
+    ensures { result ≡ quad_at s.now at }
 {
     65536 * word_at(s, at) + word_at(s, at + 2)
 }
 
 pub(crate) fn settings_at(s: &[u8], at: usize) -> Settings
     requires { at + 6 ≤ length s.now }
-    ensures { result ≡ settingsAt s.now at }
+    ensures { result ≡ settings_at s.now at }
 {
     Settings {
         fitted: byte_at(s, at),
@@ -48,7 +48,7 @@ pub(crate) fn settings_at(s: &[u8], at: usize) -> Settings
 // The event whose kind stands at a place.
 pub(crate) fn event_at(s: &[u8], at: usize) -> Event
     requires { (at < length s.now) × (at + length_of (byte_at s.now at) ≤ length s.now) }
-    ensures { result ≡ eventAt s.now at }
+    ensures { result ≡ event_at s.now at }
 {
     let kind = byte_at(s, at);
     match kind {

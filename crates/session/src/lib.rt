@@ -3,7 +3,7 @@
 ghost use Rattle.std.specs.Prelude.{◌≡◌};
 ghost use Rattle.rules.specs.ToldInNumbers.{ToldInNumbers};
 ghost use Rattle.file_rules.specs.File.{item_at};
-ghost use Rattle.file_rules.specs.Numbers.{itemNumbers};
+ghost use Rattle.file_rules.specs.Numbers.{item_numbers};
 
 use crate::common::{ahead, load_stands, tick_stands};
 use crate::fields::quad_at;
@@ -28,7 +28,7 @@ pub(crate) fn any_at(s: &[u8], at: usize) -> Item
 // The record at a place of a session file; place 0 is the start of the file, before its version byte. A tick or a write to 18h, as most
 // records of a session are, is told by its bytes alone, in fewer steps.
 pub fn item_at(s: &[u8], at: usize) -> Item
-    ensures { ToldInNumbers itemNumbers (item_at s.now at) result }
+    ensures { ToldInNumbers item_numbers (item_at s.now at) result }
 {
     let n = ahead(s, at);
     if tick_stands(s, at, n) {

@@ -2,7 +2,7 @@
 ghost use Rattle.std.specs.Prelude.{◌≡◌, cond, eqb};
 ghost use Rattle.file_rules.specs.declared.End.TheVariants.{Refused};
 ghost use Rattle.file_rules.specs.declared.Item.TheVariants.{Over};
-ghost use Rattle.file_rules.specs.File.{byte_at, recordAt};
+ghost use Rattle.file_rules.specs.File.{byte_at, record_at};
 
 use crate::fields::{byte_at, event_at, word_at};
 use file_rules::{End, Fault, Item};
@@ -17,7 +17,7 @@ pub(crate) fn refused(why: Fault, at: usize) -> Item
 // 01: "then per record 11, length 0 (12), 13, 12". A length that is not 0 and is that of the kind says that the kind is known: an event,
 // as most records are, is asked for first.
 pub(crate) fn record_at(s: &[u8], at: usize) -> Item
-    ensures { result ≡ recordAt s.now at }
+    ensures { result ≡ record_at s.now at }
 {
     if s.len() <= at {
         return Item::Over(End::File);

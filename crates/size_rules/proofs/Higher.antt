@@ -7,44 +7,44 @@ use native.Mathlib.Nat.{le_refl}
 use lib.Dec.{ltb, eqb}
 use lib.ListN.{length, take}
 use lib.Seq.{take_all}
-use Rattle.laws.specs.Types.{Settings, Event, powerUp, write, read, signal}
+use Rattle.laws.specs.Types.{Settings, Event, power_up, write, read, signal}
 use Rattle.rules.specs.Record.{State, depth_of, start}
-use Rattle.rules.specs.Refusals.{settingRefusal}
+use Rattle.rules.specs.Refusals.{setting_refusal}
 use Rattle.rules.specs.Step.{step}
 use Rattle.rules.specs.Session.{after}
-use Rattle.rules.proofs.Steps.{refusal-answered}
-use Rattle.rules.proofs.Own.{power-up-own}
+use Rattle.rules.proofs.Steps.{refusal_answered}
+use Rattle.rules.proofs.Own.{power_up_own}
 use Rattle.laws.proofs.Memory.{memory_kept}
 use Rattle.demand3.specs.Demand3.{NothingLost, Agree, PowerUpAlike, PowerUpsAlike}
-use Rattle.demand3.proofs.Lossless.{lossless-test, lossless-take}
-use Rattle.demand3.proofs.Demand3.{demand3-alike}
-use Rattle.size_rules.specs.Coded.{sized, sizedAll}
-use Rattle.size_rules.specs.Smallest.{replays, playsInTurn}
-use Rattle.size_rules.proofs.Coded.{sized-length, all-never-lower}
+use Rattle.demand3.proofs.Lossless.{lossless_test, lossless_take}
+use Rattle.demand3.proofs.Demand3.{demand3_alike}
+use Rattle.size_rules.specs.Coded.{sized, sized_all}
+use Rattle.size_rules.specs.Smallest.{replays, plays_in_turn}
+use Rattle.size_rules.proofs.Coded.{sized_length, all_never_lower}
 
 -- ---- Power-ups are answered alike
 
 -- by the settings and the memory's length alone
-up-answered : (s s' : State) (x : Settings) → length s.memory ≡ length s'.memory
-    → (step s (powerUp x)).answer.refusal ≡ (step s' (powerUp x)).answer.refusal
-up-answered s s' x q =
-    refusal-answered s (powerUp x)
-    ∙ power-up-own s x
-    ∙ ap (λ (n : ℕ). cond (eqb (settingRefusal x) 0) (cond (ltb n (depth_of x.fitted)) 2 0) (settingRefusal x)) q
-    ∙ sym (power-up-own s' x)
-    ∙ sym (refusal-answered s' (powerUp x))
+up_answered : (s s' : State) (x : Settings) → length s.memory ≡ length s'.memory
+    → (step s (power_up x)).answer.refusal ≡ (step s' (power_up x)).answer.refusal
+up_answered s s' x q =
+    refusal_answered s (power_up x)
+    ∙ power_up_own s x
+    ∙ ap (λ (n : ℕ). cond (eqb (setting_refusal x) 0) (cond (ltb n (depth_of x.fitted)) 2 0) (setting_refusal x)) q
+    ∙ sym (power_up_own s' x)
+    ∙ sym (refusal_answered s' (power_up x))
 
 one_alike : (j k : ℕ) (s s' : State) (e : Event) → length s.memory ≡ length s'.memory
     → PowerUpAlike (sized j e) (step s (sized j e)) (step s' (sized k e))
 unfolding sized
-one_alike j k s s' (powerUp x) q = up-answered s s' x q
+one_alike j k s s' (power_up x) q = up_answered s s' x q
 one_alike j k s s' (write o v) q = tt
 one_alike j k s s' (read o) q = tt
 one_alike j k s s' (signal x) q = tt
 
 all_alike : (j k n : ℕ) (es : List Event) (s s' : State) → length s.memory ≡ length s'.memory
-    → PowerUpsAlike s (take n (sizedAll j es)) s' (take n (sizedAll k es))
-unfolding sizedAll PowerUpsAlike
+    → PowerUpsAlike s (take n (sized_all j es)) s' (take n (sized_all k es))
+unfolding sized_all PowerUpsAlike
 all_alike j k zero es s s' q = tt
 all_alike j k (suc n) [] s s' q = tt
 all_alike j k (suc n) (e ∷ es) s s' q = (
@@ -55,36 +55,36 @@ all_alike j k (suc n) (e ∷ es) s s' q = (
 -- ---- Demand 3 of the two replays
 
 module _ (es : List Event) (m m' : List ℕ) (same : length m ≡ length m') (j k : ℕ) (lower : j ≤ k) (within : k ≤ 15) where
-  pub replays-agree : NothingLost (start m) (sizedAll j es) → (n : ℕ)
-      → Agree (start m) (take n (sizedAll j es)) (start m') (take n (sizedAll k es))
-  replays-agree h n =
-      demand3-alike m m' _ _ (all-never-lower j k lower within es) n (all_alike j k n es (start m) (start m') same)
-      (lossless-take n (start m) (sizedAll j es) h)
+  pub replays_agree : NothingLost (start m) (sized_all j es) → (n : ℕ)
+      → Agree (start m) (take n (sized_all j es)) (start m') (take n (sized_all k es))
+  replays_agree h n =
+      demand3_alike m m' _ _ (all_never_lower j k lower within es) n (all_alike j k n es (start m) (start m') same)
+      (lossless_take n (start m) (sized_all j es) h)
 
-  pub higher-plays : NothingLost (start m) (sizedAll j es) → NothingLost (start m') (sizedAll k es)
-  higher-plays h =
-      subst (NothingLost (start m')) (take_all (length es) (sizedAll k es) (subst (λ (n : ℕ). n ≤ length es) (sym (sized-length k es)) (le_refl (length es))))
-      (replays-agree h (length es)).lossless
+  pub higher_plays : NothingLost (start m) (sized_all j es) → NothingLost (start m') (sized_all k es)
+  higher_plays h =
+      subst (NothingLost (start m')) (take_all (length es) (sized_all k es) (subst (λ (n : ℕ). n ≤ length es) (sym (sized_length k es)) (le_refl (length es))))
+      (replays_agree h (length es)).lossless
 
 -- ---- The turn of a code, over what the ones before left
 
-after-long : (s : State) (es : List Event) → length (after s es).memory ≡ length s.memory
+after_long : (s : State) (es : List Event) → length (after s es).memory ≡ length s.memory
 unfolding after
-after-long s [] = refl
-after-long s (e ∷ es) = after-long (step s e).state es ∙ (memory_kept s e).long
+after_long s [] = refl
+after_long s (e ∷ es) = after_long (step s e).state es ∙ (memory_kept s e).long
 
-replays-long : (es : List Event) (m : List ℕ) (k : ℕ) → length (replays es m k) ≡ length m
+replays_long : (es : List Event) (m : List ℕ) (k : ℕ) → length (replays es m k) ≡ length m
 unfolding replays
-replays-long es m zero = refl
-replays-long es m (suc k) = after-long _ _ ∙ replays-long es m k
+replays_long es m zero = refl
+replays_long es m (suc k) = after_long _ _ ∙ replays_long es m k
 
 module _ (es : List Event) (m m' : List ℕ) (k : ℕ) (same : length m' ≡ length m) (within : k ≤ 15) where
   -- as it plays there, it plays over any memory of that length
-  pub turn-plays : playsInTurn es m k ≡ true → NothingLost (start m') (sizedAll k es)
-  unfolding playsInTurn
-  turn-plays h = higher-plays es (replays es m k) m' (replays-long es m k ∙ sym same) k k (le_refl k) within ((lossless-test _ _).0 h)
+  pub turn_plays : plays_in_turn es m k ≡ true → NothingLost (start m') (sized_all k es)
+  unfolding plays_in_turn
+  turn_plays h = higher_plays es (replays es m k) m' (replays_long es m k ∙ sym same) k k (le_refl k) within ((lossless_test _ _).0 h)
 
-  pub turn-loses : playsInTurn es m k ≡ false → ¬ NothingLost (start m') (sizedAll k es)
-  unfolding playsInTurn
-  turn-loses h l =
-      false≢true (sym h ∙ (lossless-test _ _).1 (higher-plays es m' (replays es m k) (same ∙ sym (replays-long es m k)) k k (le_refl k) within l))
+  pub turn_loses : plays_in_turn es m k ≡ false → ¬ NothingLost (start m') (sized_all k es)
+  unfolding plays_in_turn
+  turn_loses h l =
+      false≢true (sym h ∙ (lossless_test _ _).1 (higher_plays es m' (replays es m k) (same ∙ sym (replays_long es m k)) k k (le_refl k) within l))

@@ -2,10 +2,10 @@
 -- codes kept").
 --   with_code k v    the value v with the code k in it
 --   sized k e       the event e with the code k in it
---   sizedAll k es   the session es with it
+--   sized_all k es   the session es with it
 use Rattle.std.specs.Prelude.{ℕ, ◌+◌, ◌*◌, ◌/◌, cond, List, [], ◌∷◌, eqb}
 use Rattle.rules.specs.declared.Event.{Event}
-use Rattle.rules.specs.declared.Event.TheVariants.{PowerUp as powerUp, Write as write, Read as read, Signal as signal}
+use Rattle.rules.specs.declared.Event.TheVariants.{PowerUp as power_up, Write as write, Read as read, Signal as signal}
 
 -- D3..0 are the code; the other bits are kept
 abbrev pub with_code : ℕ → ℕ → ℕ
@@ -14,11 +14,11 @@ with_code k v = v / 16 * 16 + k
 -- "every buffer operations write": each write to 0Ch, one that is refused too. The code 15 that power-up and initialise set is no write
 -- and stays until the next write that is accepted (DECISIONS 108).
 unfoldable pub sized : ℕ → Event → Event
-sized k (powerUp x) = powerUp x
+sized k (power_up x) = power_up x
 sized k (write o v) = write o (cond (eqb o 0x0C) (with_code k v) v)
 sized k (read o) = read o
 sized k (signal x) = signal x
 
-unfoldable pub sizedAll : ℕ → List Event → List Event
-sizedAll k [] = []
-sizedAll k (e ∷ es) = sized k e ∷ sizedAll k es
+unfoldable pub sized_all : ℕ → List Event → List Event
+sized_all k [] = []
+sized_all k (e ∷ es) = sized k e ∷ sized_all k es

@@ -32,12 +32,12 @@ abbrev pub lent : List ℕ
 lent = replicate 32 7
 
 -- the code that is named, 16 where there is none
-unfoldable pub codeNamed : Look
-codeNamed es = lowest es lent ∷ []
+unfoldable pub code_named : Look
+code_named es = lowest es lent ∷ []
 
 -- the memory as it is left
-unfoldable pub memoryLeft : Look
-memoryLeft es = replays es lent (replayed (lowest es lent))
+unfoldable pub memory_left : Look
+memory_left es = replays es lent (replayed (lowest es lent))
 
 -- ---- The table
 
@@ -46,59 +46,59 @@ examples =
     -- nine values are one too many for code 0, and seventeen for code 1, whatever code the session had
     record {
       session = fit 2 ∷ bor 0 ∷ loads 9;
-      sights = codeNamed shows (1 ∷ []) ∷ [];
+      sights = code_named shows (1 ∷ []) ∷ [];
     }
     ∷ record {
       session = fit 2 ∷ bor 0xF ∷ loads 17;
-      sights = codeNamed shows (2 ∷ []) ∷ [];
+      sights = code_named shows (2 ∷ []) ∷ [];
     }
     -- eight play at code 0, and so do nine where a clock has taken one away
     ∷ record {
       session = fit 2 ∷ mask 1 ∷ bor 0x2F ∷ loads 8 ++ clk ∷ load 9 ∷ [];
-      sights = codeNamed shows (0 ∷ []) ∷ [];
+      sights = code_named shows (0 ∷ []) ∷ [];
     }
     -- the code 15 that power-up sets is no write, and stays: nine values before the first write to 0Ch
     ∷ record {
       session = fit 2 ∷ loads 9;
-      sights = codeNamed shows (0 ∷ []) ∷ [];
+      sights = code_named shows (0 ∷ []) ∷ [];
     }
     -- the same after initialise
     ∷ record {
       session = fit 2 ∷ bor 0 ∷ bcr 0x8000 ∷ loads 9;
-      sights = codeNamed shows (0 ∷ []) ∷ [];
+      sights = code_named shows (0 ∷ []) ∷ [];
     }
     -- and it goes with the next write: a tenth value finds nine where eight have room
     ∷ record {
       session = fit 2 ∷ loads 9 ++ bor 0xF ∷ load 10 ∷ [];
-      sights = codeNamed shows (1 ∷ []) ∷ [];
+      sights = code_named shows (1 ∷ []) ∷ [];
     }
     -- a value lost to a closed buffer, fate 3, fails no code
     ∷ record {
       session = fit 2 ∷ load 1 ∷ bor 0x100 ∷ load 2 ∷ [];
-      sights = codeNamed shows (0 ∷ []) ∷ [];
+      sights = code_named shows (0 ∷ []) ∷ [];
     }
     -- no power-up is accepted, since 64 values are more than the memory has: nothing is lost
     ∷ record {
       session = fit 3 ∷ bor 0 ∷ loads 9;
-      sights = codeNamed shows (0 ∷ []) ∷ memoryLeft shows lent ∷ [];
+      sights = code_named shows (0 ∷ []) ∷ memory_left shows lent ∷ [];
     }
     -- one that is refused fails no code and changes nothing: the ninth value still finds eight
     ∷ record {
       session = fit 2 ∷ bor 0 ∷ loads 8 ++ fit 3 ∷ load 9 ∷ [];
-      sights = codeNamed shows (1 ∷ []) ∷ [];
+      sights = code_named shows (1 ∷ []) ∷ [];
     }
     -- "the fitted codes kept": a depth of 8 has no room for nine, at any code. The memory is as the last replay left it, to its end: a
     -- clock took the first value away, and 10 was stored in its place
     ∷ record {
       session = fit 0 ∷ mask 1 ∷ bor 0x20 ∷ loads 9 ++ clk ∷ load 10 ∷ [];
-      sights = codeNamed shows (16 ∷ []) ∷ memoryLeft shows (10 ∷ 2 ∷ 3 ∷ 4 ∷ 5 ∷ 6 ∷ 7 ∷ 8 ∷ replicate 24 7) ∷ [];
+      sights = code_named shows (16 ∷ []) ∷ memory_left shows (10 ∷ 2 ∷ 3 ∷ 4 ∷ 5 ∷ 6 ∷ 7 ∷ 8 ∷ replicate 24 7) ∷ [];
     }
     -- "each over what the one before left", "past losses": a burst on a circular buffer ends with the ninth value's EOF. At code 0 that
     -- value is lost, so that eight values go on round for all fourteen clocks, up to the entry 21; code 1 writes up to the entry 17
     ∷ record {
       session = fit 2 ∷ bcr 0x11 ∷ mask 1 ∷ bor 0x20 ∷ loads 8 ++ load 0x10009 ∷ bor 0x120 ∷ signal trigger ∷ clocks 14;
-      sights = codeNamed shows (1 ∷ [])
-          ∷ memoryLeft shows (1 ∷ 2 ∷ 3 ∷ 4 ∷ 5 ∷ 6 ∷ 7 ∷ 8 ∷ 0x10009 ∷ 1 ∷ 2 ∷ 3 ∷ 4 ∷ 5 ∷ 6 ∷ 7 ∷ 8 ∷ 0x10009 ∷ 3 ∷ 4 ∷ 5 ∷ 6 ∷ replicate 10 7)
+      sights = code_named shows (1 ∷ [])
+          ∷ memory_left shows (1 ∷ 2 ∷ 3 ∷ 4 ∷ 5 ∷ 6 ∷ 7 ∷ 8 ∷ 0x10009 ∷ 1 ∷ 2 ∷ 3 ∷ 4 ∷ 5 ∷ 6 ∷ 7 ∷ 8 ∷ 0x10009 ∷ 3 ∷ 4 ∷ 5 ∷ 6 ∷ replicate 10 7)
           ∷ [];
     }
     -- the same of three codes. The first part is as above, and at code 0 alone goes up to the entry 21. In the second, with the buffer
@@ -108,8 +108,8 @@ examples =
       session = fit 2 ∷ bcr 0x11 ∷ mask 1 ∷ bor 0x20 ∷ loads 8 ++ load 0x10009 ∷ bor 0x120 ∷ signal trigger ∷ clocks 14
           ++ bor 0x820 ∷ bcr 0x90 ∷ mask 0x7FFF ∷ loads 16 ++ load 0x10011 ∷ clk
           ∷ bcr 0x11 ∷ mask 1 ∷ bor 0x120 ∷ signal trigger ∷ clocks 4;
-      sights = codeNamed shows (2 ∷ [])
-          ∷ memoryLeft shows (1 ∷ 2 ∷ 3 ∷ 4 ∷ 5 ∷ 6 ∷ 7 ∷ 8 ∷ 9 ∷ 10 ∷ 11 ∷ 12 ∷ 13 ∷ 14 ∷ 15 ∷ 16 ∷ 0x10011 ∷ 16 ∷ 0x10011 ∷ 16 ∷ 5 ∷ 6 ∷ replicate 10 7)
+      sights = code_named shows (2 ∷ [])
+          ∷ memory_left shows (1 ∷ 2 ∷ 3 ∷ 4 ∷ 5 ∷ 6 ∷ 7 ∷ 8 ∷ 9 ∷ 10 ∷ 11 ∷ 12 ∷ 13 ∷ 14 ∷ 15 ∷ 16 ∷ 0x10011 ∷ 16 ∷ 0x10011 ∷ 16 ∷ 5 ∷ 6 ∷ replicate 10 7)
           ∷ [];
     }
     ∷ []

@@ -10,32 +10,32 @@ use Rattle.rules.specs.Record.{start}
 use Rattle.file_rules.specs.declared.End.TheVariants.{File}
 use Rattle.file_rules.specs.File.{session}
 use Rattle.demand3.specs.Demand3.{NothingLost, Agree}
-use Rattle.size_rules.specs.Coded.{sizedAll}
-use Rattle.size_rules.specs.Smallest.{sizeRefusal, sizeCode}
+use Rattle.size_rules.specs.Coded.{sized_all}
+use Rattle.size_rules.specs.Smallest.{size_refusal, size_code}
 
 -- the events of the session file s, with the size code k
-abbrev pub eventsWith : List ℕ → ℕ → List Event
-eventsWith s k = sizedAll k (session s).events
+abbrev pub events_with : List ℕ → ℕ → List Event
+events_with s k = sized_all k (session s).events
 
 -- The code k plays the session s on every sample memory of n values, whatever stands in it. Only the length of a memory tells, since it
 -- decides which power-ups are accepted.
 abbrev pub Plays : List ℕ → ℕ → ℕ → Type 0
-Plays s n k = (m : List ℕ) → length m ≡ n → NothingLost (start m) (eventsWith s k)
+Plays s n k = (m : List ℕ) → length m ≡ n → NothingLost (start m) (events_with s k)
 
 -- it plays it on none
 abbrev pub Loses : List ℕ → ℕ → ℕ → Type 0
-Loses s n k = (m : List ℕ) → length m ≡ n → ¬ NothingLost (start m) (eventsWith s k)
+Loses s n k = (m : List ℕ) → length m ≡ n → ¬ NothingLost (start m) (events_with s k)
 
 abbrev pub Named-plays : Type 0
-Named-plays = (s m : List ℕ) → sizeRefusal s m ≡ 0 → (sizeCode s m ≤ 15) × Plays s (length m) (sizeCode s m)
+Named-plays = (s m : List ℕ) → size_refusal s m ≡ 0 → (size_code s m ≤ 15) × Plays s (length m) (size_code s m)
 
 -- 02: "Show that no lower code does"
 abbrev pub Lower-lose : Type 0
-Lower-lose = (s m : List ℕ) (k : ℕ) → sizeRefusal s m ≡ 0 → k < sizeCode s m → Loses s (length m) k
+Lower-lose = (s m : List ℕ) (k : ℕ) → size_refusal s m ≡ 0 → k < size_code s m → Loses s (length m) k
 
 -- 02: "19 exactly when none of the sixteen codes plays without loss"
 abbrev pub None-plays : Type 0
-None-plays = (s m : List ℕ) → (sizeRefusal s m ≡ 19) ↔ (((session s).end ≡ File) × ((k : ℕ) → k ≤ 15 → Loses s (length m) k))
+None-plays = (s m : List ℕ) → (size_refusal s m ≡ 19) ↔ (((session s).end ≡ File) × ((k : ℕ) → k ≤ 15 → Loses s (length m) k))
 
 -- 02: "and, by demand 3, that all higher codes do wherever no power-up is refused". They do where one is refused too: a power-up's
 -- refusal looks at its settings and the memory's length alone, so that it is the same at every code, and demand 3 holds for such runs
@@ -45,9 +45,9 @@ None-plays = (s m : List ℕ) → (sizeRefusal s m ≡ 19) ↔ (((session s).end
 abbrev pub Higher-play : Type 0
 Higher-play =
     (s m m₁ m₂ : List ℕ) (k : ℕ)
-    → sizeRefusal s m ≡ 0
-    → sizeCode s m ≤ k
+    → size_refusal s m ≡ 0
+    → size_code s m ≤ k
     → k ≤ 15
     → length m₁ ≡ length m
     → length m₂ ≡ length m
-    → NothingLost (start m₂) (eventsWith s k) × ((n : ℕ) → Agree (start m₁) (take n (eventsWith s (sizeCode s m))) (start m₂) (take n (eventsWith s k)))
+    → NothingLost (start m₂) (events_with s k) × ((n : ℕ) → Agree (start m₁) (take n (events_with s (size_code s m))) (start m₂) (take n (events_with s k)))

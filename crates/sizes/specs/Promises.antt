@@ -1,10 +1,10 @@
 -- What the public function and the exported one promise: it fixes every outcome, the sample memory too.
 use Rattle.std.specs.Prelude.{ℕ, ◌≡◌, List}
-use Rattle.size_rules.specs.Smallest.{sizeRefusal, sizeCode, sizeMemory}
+use Rattle.size_rules.specs.Smallest.{size_refusal, size_code, size_memory}
 use Rattle.sizes.specs.declared.Smallest.{Smallest}
 
 -- smallest_size(s, m) = r, and m is m' afterwards; nergutsai_smallest_size(s, m, code) answers r's refusal, and leaves its code in `code`
 pub record SizeNamed (s m : List ℕ) (r : Smallest) (m' : List ℕ) : Type 0 where
-  pub refusal : r.refusal ≡ sizeRefusal s m
-  pub code : r.code ≡ sizeCode s m
-  pub memory : m' ≡ sizeMemory s m
+  pub refusal : r.refusal ≡ size_refusal s m
+  pub code : r.code ≡ size_code s m
+  pub memory : m' ≡ size_memory s m

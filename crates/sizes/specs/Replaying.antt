@@ -3,15 +3,15 @@ use Rattle.std.specs.Prelude.{ℕ, ◌≡◌, Bool, cond, List, ltb}
 use Rattle.rules.specs.Record.{start}
 use Rattle.rules.specs.Session.{after}
 use Rattle.file_rules.specs.File.{session}
-use Rattle.size_rules.specs.Coded.{sizedAll}
-use Rattle.demand3.specs.Demand3.{losesNothing}
+use Rattle.size_rules.specs.Coded.{sized_all}
+use Rattle.demand3.specs.Demand3.{loses_nothing}
 use Rattle.size_rules.specs.Smallest.{replays, codes, lowest, replayed}
 use Rattle.sizes.specs.declared.Smallest.{Smallest}
 
 -- the session file s with the code k, from the unpowered record over the memory m
 pub record ReplayTold (s m : List ℕ) (k : ℕ) (r : Bool) (m' : List ℕ) : Type 0 where
-  pub whole : r ≡ losesNothing (start m) (sizedAll k (session s).events)
-  pub memory : m' ≡ (after (start m) (sizedAll k (session s).events)).memory
+  pub whole : r ≡ loses_nothing (start m) (sized_all k (session s).events)
+  pub memory : m' ≡ (after (start m) (sized_all k (session s).events)).memory
 
 pub record LowestTold (s m : List ℕ) (r : ℕ) (m' : List ℕ) : Type 0 where
   pub code : r ≡ lowest (session s).events m

@@ -1,7 +1,7 @@
 // The clauses of soundness.
 ghost use Rattle.std.specs.Prelude.{min, ◌≡◌};
 ghost use Rattle.rules.specs.Bits.{only_if};
-ghost use Rattle.rules.specs.Record.{depth_of, optionsInRange, soundCore, soundRing};
+ghost use Rattle.rules.specs.Record.{depth_of, options_in_range, sound_core, sound_ring};
 
 use record::{code_in_range, firmware_in_range, fitted_in_range, mask_limit};
 use rules::{Core, Options, Ring, Size};
@@ -18,7 +18,7 @@ pub(crate) fn only_if(a: bool, b: bool) -> bool
 
 // The nesting and the last `true`, here and below, are those of `all` over the rules' list: so the two compute alike.
 pub(crate) fn options_in_range(o: Options) -> bool
-    ensures { result ≡ optionsInRange o }
+    ensures { result ≡ options_in_range o }
 {
     code_in_range(o.range)
         & (code_in_range(o.filter)
@@ -27,7 +27,7 @@ pub(crate) fn options_in_range(o: Options) -> bool
 
 // 01's clauses of soundness that speak of the core.
 pub(crate) fn sound_core(c: Core) -> bool
-    ensures { result ≡ soundCore c }
+    ensures { result ≡ sound_core c }
 {
     let zeroed = only_if(c.control.simultaneous, c.outputs.cursor == 0);
     let circles = only_if(c.load.pending | c.load.opened, c.mode.circular);
@@ -54,7 +54,7 @@ pub(crate) fn sound_core(c: Core) -> bool
 // 01's clauses of soundness that speak of sizes and places, d being the depth where the fitted code is in range.
 pub(crate) fn sound_ring(s: Size, r: Ring, d: u32) -> bool
     requires { d ≡ depth_of (min s.fitted 15) }
-    ensures { result ≡ soundRing s r }
+    ensures { result ≡ sound_ring s r }
 {
     fitted_in_range(s.fitted) & ((s.code <= 15) & ((r.first < d) & ((r.count <= d) & true)))
 }

@@ -2,8 +2,8 @@
 // takes, its four flags; and whether an event initialises. Each test stands here once, for every crate that asks.
 // Every call takes every input, and tells what a rule says (`Told` of rules/specs/Told.antt).
 ghost use Rattle.std.specs.Prelude.{◌*◌, leb, ltb};
-ghost use Rattle.rules.specs.Record.{activeSize};
-ghost use Rattle.rules.specs.Clocks.{closed, clockReady, burstReady, tickAccepted};
+ghost use Rattle.rules.specs.Record.{active_size};
+ghost use Rattle.rules.specs.Clocks.{closed, clock_ready, burst_ready, tick_accepted};
 ghost use Rattle.rules.specs.Flags.{is_empty};
 ghost use Rattle.rules.specs.Size.{initialises};
 ghost use Rattle.rules.specs.Told.{Told};
@@ -21,28 +21,28 @@ pub fn closed(c: Core) -> bool
 
 // 01: "D6 reads EXTERNAL and neither settling nor calibrating"
 pub fn clock_ready(c: Core) -> bool
-    ensures { Told (clockReady c) result }
+    ensures { Told (clock_ready c) result }
 {
     c.mode.external & !c.clock.settling & !c.calibration.running
 }
 
 // 01: "D1 = enabled and no burst"
 pub fn burst_ready(c: Core) -> bool
-    ensures { Told (burstReady c) result }
+    ensures { Told (burst_ready c) result }
 {
     c.control.bursts & !c.burst.running
 }
 
 // 01: "A generator tick is accepted when clocking is enabled and (EXTERNAL = 0 or ALT = 1)."; "While calibrating, no clock .. is accepted."
 pub fn tick_accepted(c: Core) -> bool
-    ensures { Told (tickAccepted c) result }
+    ensures { Told (tick_accepted c) result }
 {
     c.mode.enabled & (!c.mode.external | c.clock.alt) & !c.calibration.running
 }
 
 // 01: "The active size is 8·2^m, where m is the lesser of size code and d."
 pub fn active_size(s: Size) -> u32
-    ensures { Told (activeSize (capped s)) result }
+    ensures { Told (active_size (capped s)) result }
 {
     if s.code < s.fitted {
         return depth_of(s.code);

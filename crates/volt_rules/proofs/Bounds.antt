@@ -9,12 +9,12 @@ use mathlib.Core.List.{List, [], ◌∷◌}
 use borrow.Author.Tests.{ltb-true, ltb-false}
 use lib.Dec.{ltb}
 use lib.Ieee.{Float, le}
-use Rattle.volt_rules.specs.Volts.{zeroVolts}
+use Rattle.volt_rules.specs.Volts.{zero_volts}
 use Rattle.volt_rules.specs.Extremes.{lesser, greater, picked, last_of}
-use Rattle.volt_rules.specs.Table.{extremesOf}
+use Rattle.volt_rules.specs.Table.{extremes_of}
 use Rattle.volt_rules.specs.Laws.{OneOf, Bounds}
-use Rattle.volt_rules.proofs.Lists.{Each, each-parted, each-also}
-use Rattle.volt_rules.proofs.Floats.{Height, lt-heights, le-heights}
+use Rattle.volt_rules.proofs.Lists.{Each, each_parted, each_also}
+use Rattle.volt_rules.proofs.Floats.{Height, lt_heights, le_heights}
 
 -- volts that have a height
 abbrev pub High : Float → Type 0
@@ -61,7 +61,7 @@ module _ (pick : Float → Float → Float) (R : ℕ → ℕ → Type 0) where
                 reached = subst (λ (x : Float). OneOf x (v ∷ w ∷ vs)) (sym e) ([], w ∷ vs, refl);
                 all = (
                   (k.0.0, k.0.1, same _),
-                  each-also (Within b.height) (Within k.0.0) (λ x z. (z.0, z.1, on _ _ _ r z.2)) (w ∷ vs) b.all,
+                  each_also (Within b.height) (Within k.0.0) (λ x z. (z.0, z.1, on _ _ _ r z.2)) (w ∷ vs) b.all,
                 );
               }
 
@@ -73,42 +73,42 @@ AtMost h g = h ≤ g
 abbrev pub AtLeast : ℕ → ℕ → Type 0
 AtLeast h g = g ≤ h
 
-lesser-picks : Picks lesser AtMost
-lesser-picks x y h g p q = go (ltb g h) refl
+lesser_picks : Picks lesser AtMost
+lesser_picks x y h g p q = go (ltb g h) refl
   where
     go : (t : Bool) → ltb g h ≡ t → ((lesser x y ≡ x) × (h ≤ g)) ⊎ ((lesser x y ≡ y) × (g ≤ h))
-    go true e = inr (ap (λ (t : Bool). cond t y x) (lt-heights q p ∙ e), omega (arith, ltb-true g h e))
-    go false e = inl (ap (λ (t : Bool). cond t y x) (lt-heights q p ∙ e), ltb-false g h e)
+    go true e = inr (ap (λ (t : Bool). cond t y x) (lt_heights q p ∙ e), omega (arith, ltb-true g h e))
+    go false e = inl (ap (λ (t : Bool). cond t y x) (lt_heights q p ∙ e), ltb-false g h e)
 
-greater-picks : Picks greater AtLeast
-greater-picks x y h g p q = go (ltb h g) refl
+greater_picks : Picks greater AtLeast
+greater_picks x y h g p q = go (ltb h g) refl
   where
     go : (t : Bool) → ltb h g ≡ t → ((greater x y ≡ x) × (g ≤ h)) ⊎ ((greater x y ≡ y) × (h ≤ g))
-    go true e = inr (ap (λ (t : Bool). cond t y x) (lt-heights p q ∙ e), omega (arith, ltb-true h g e))
-    go false e = inl (ap (λ (t : Bool). cond t y x) (lt-heights p q ∙ e), ltb-false h g e)
+    go true e = inr (ap (λ (t : Bool). cond t y x) (lt_heights p q ∙ e), omega (arith, ltb-true h g e))
+    go false e = inl (ap (λ (t : Bool). cond t y x) (lt_heights p q ∙ e), ltb-false h g e)
 
-pub lowest-best : (v : Float) (vs : List Float) → Each High (v ∷ vs) → Best lesser AtMost (v ∷ vs)
-lowest-best = best lesser AtMost (λ h. le_refl h) (λ h g f p q. le_trans p q) lesser-picks
+pub lowest_best : (v : Float) (vs : List Float) → Each High (v ∷ vs) → Best lesser AtMost (v ∷ vs)
+lowest_best = best lesser AtMost (λ h. le_refl h) (λ h g f p q. le_trans p q) lesser_picks
 
-pub highest-best : (v : Float) (vs : List Float) → Each High (v ∷ vs) → Best greater AtLeast (v ∷ vs)
-highest-best = best greater AtLeast (λ h. le_refl h) (λ h g f p q. le_trans q p) greater-picks
+pub highest_best : (v : Float) (vs : List Float) → Each High (v ∷ vs) → Best greater AtLeast (v ∷ vs)
+highest_best = best greater AtLeast (λ h. le_refl h) (λ h g f p q. le_trans q p) greater_picks
 
 -- ---- All three
 
-pub bounds : (v : Float) (vs : List Float) → Each High (v ∷ vs) → OneOf zeroVolts (v ∷ vs) → Bounds (v ∷ vs) (extremesOf (v ∷ vs))
+pub bounds : (v : Float) (vs : List Float) → Each High (v ∷ vs) → OneOf zero_volts (v ∷ vs) → Bounds (v ∷ vs) (extremes_of (v ∷ vs))
 unfolding last_of
 bounds v vs k z =
-    let low = lowest-best v vs k in
-    let high = highest-best v vs k in
+    let low = lowest_best v vs k in
+    let high = highest_best v vs k in
     let inside : (x : Float) → OneOf x (v ∷ vs) → (le (picked lesser (v ∷ vs)) x ≡ true) × (le x (picked greater (v ∷ vs)) ≡ true) = λ x o.
-    let p = each-parted _ (v ∷ vs) o.0 o.1 x o.2 low.all in
-    let q = each-parted _ (v ∷ vs) o.0 o.1 x o.2 high.all in
-    (le-heights low.high p.1 p.2, le-heights q.1 high.high q.2) in
+    let p = each_parted _ (v ∷ vs) o.0 o.1 x o.2 low.all in
+    let q = each_parted _ (v ∷ vs) o.0 o.1 x o.2 high.all in
+    (le_heights low.high p.1 p.2, le_heights q.1 high.high q.2) in
     record {
-      lowest-reached = low.reached;
-      highest-reached = high.reached;
+      lowest_reached = low.reached;
+      highest_reached = high.reached;
       inside = inside;
       last = (vs, refl);
       ordered = inside v ([], vs, refl);
-      midrange = inside zeroVolts z;
+      midrange = inside zero_volts z;
     }

@@ -1,13 +1,13 @@
 -- The examples, by computation.
 use mathlib.Core.Path.{◌≡◌, refl}
 use mathlib.Core.Bool.{true}
-use Rattle.rules.proofs.Bench.{alike, showing, all_true, cases-shown}
+use Rattle.rules.proofs.Bench.{alike, showing, all_true, cases_shown}
 use Rattle.volt_rules.specs.Examples.{scaled, volts, examples, Volts-shown}
-use Rattle.volt_rules.proofs.Open.{volts-open}
+use Rattle.volt_rules.proofs.Open.{volts_open}
 
-examples-true : all_true examples ≡ true
-unfolding alike showing all_true examples scaled volts volts-open
-examples-true = refl
+examples_true : all_true examples ≡ true
+unfolding alike showing all_true examples scaled volts volts_open
+examples_true = refl
 
-pub volts-shown : Volts-shown
-volts-shown = cases-shown examples examples-true
+pub volts_shown : Volts-shown
+volts_shown = cases_shown examples examples_true

@@ -3,7 +3,7 @@
 --   counted w s es   what counts after the events es, from the state s on, where w counted before
 use Rattle.std.specs.Prelude.{ℕ, Bool, true, false, ◌&&◌, cond, List, [], ◌∷◌, eqb}
 use Rattle.rules.specs.declared.Event.{Event}
-use Rattle.rules.specs.declared.Event.TheVariants.{PowerUp as powerUp, Write as write, Read as read, Signal as signal}
+use Rattle.rules.specs.declared.Event.TheVariants.{PowerUp as power_up, Write as write, Read as read, Signal as signal}
 use Rattle.rules.specs.declared.Board.{Board}
 use Rattle.rules.specs.Record.{State}
 use Rattle.rules.specs.Step.{Outcome, step}
@@ -14,8 +14,8 @@ pub record Counted : Type 0 where
   pub levels : List (List ℕ)
 
 -- before the first accepted power-up
-abbrev pub nothingCounted : Counted
-nothingCounted = record { range = 0; levels = [] }
+abbrev pub nothing_counted : Counted
+nothing_counted = record { range = 0; levels = [] }
 
 -- right after an accepted power-up
 abbrev pub freshly : Board → Counted
@@ -26,21 +26,21 @@ unfoldable pub also : List ℕ → List (List ℕ) → List (List ℕ)
 also x [] = []
 also x (y ∷ ys) = x ∷ y ∷ ys
 
-unfoldable pub isPowerUp : Event → Bool
-isPowerUp (powerUp x) = true
-isPowerUp (write o v) = false
-isPowerUp (read o) = false
-isPowerUp (signal x) = false
+unfoldable pub is_power_up : Event → Bool
+is_power_up (power_up x) = true
+is_power_up (write o v) = false
+is_power_up (read o) = false
+is_power_up (signal x) = false
 
 -- "an accepted power-up". Initialise is none, and a power-up that is refused starts nothing and keeps the range (DECISIONS 94).
-abbrev pub startsAfresh : Event → Outcome → Bool
-startsAfresh e o = isPowerUp e && eqb o.answer.refusal 0
+abbrev pub starts_afresh : Event → Outcome → Bool
+starts_afresh e o = is_power_up e && eqb o.answer.refusal 0
 
-unfoldable pub countEvent : Event → Outcome → Counted → Counted
-countEvent e o w =
-    cond (startsAfresh e o) (freshly o.state.board)
+unfoldable pub count_event : Event → Outcome → Counted → Counted
+count_event e o w =
+    cond (starts_afresh e o) (freshly o.state.board)
     (record { range = w.range; levels = also o.state.board.core.outputs.levels w.levels })
 
 unfoldable pub counted : Counted → State → List Event → Counted
 counted w s [] = w
-counted w s (e ∷ es) = counted (countEvent e (step s e) w) (step s e).state es
+counted w s (e ∷ es) = counted (count_event e (step s e) w) (step s e).state es

@@ -6,9 +6,9 @@ use Rattle.std.specs.Float.Ieee.{up, down}
 use Rattle.rules.specs.declared.Event.{Event}
 use Rattle.rules.specs.Bits.{flag}
 use Rattle.rules.specs.Bench.{bcr, mask, bor, load, clk, Look, bench, ◌shows◌, Case, AllCases}
-use Rattle.rules.specs.Examples.{up as powerUp}
+use Rattle.rules.specs.Examples.{up as power_up}
 use Rattle.volt_rules.specs.declared.Extremes.{Extremes}
-use Rattle.volt_rules.specs.Counting.{nothingCounted, counted}
+use Rattle.volt_rules.specs.Counting.{nothing_counted, counted}
 use Rattle.volt_rules.specs.Table.{channel}
 
 -- a number of volts: 1 where it is negative and 0 where it is not, and its size times 65,536, so that 163,840 is 2.5 volts, 327,680 is 5
@@ -20,13 +20,13 @@ scaled (fin s m e) = flag s ∷ m * up e * 65536 / down e ∷ []
 
 -- at the end: lowest, highest and last of a channel
 unfoldable pub volts : ℕ → Look
-volts k es = let x : Extremes = channel (counted nothingCounted bench es) k in scaled x.lowest ++ scaled x.highest ++ scaled x.last
+volts k es = let x : Extremes = channel (counted nothing_counted bench es) k in scaled x.lowest ++ scaled x.highest ++ scaled x.last
 
 -- ---- Events
 
 -- power-up with a range, and the clock enabled
 abbrev pub ranged : ℕ → List Event → List Event
-ranged range es = powerUp 1 range 0 2 0 ∷ bor 0x20 ∷ es
+ranged range es = power_up 1 range 0 2 0 ∷ bor 0x20 ∷ es
 
 -- levels 0000h and FFFFh on channel 0, and back to 8000h
 abbrev pub swing : List Event
@@ -64,7 +64,7 @@ examples =
     }
     -- a refused one, with range code 3, starts nothing afresh and keeps the range: 5 volts below zero before it, 2.5 above after it
     ∷ record {
-      session = ranged 1 (mask 1 ∷ load 0 ∷ load 0xC000 ∷ clk ∷ powerUp 1 3 0 2 0 ∷ clk ∷ []);
+      session = ranged 1 (mask 1 ∷ load 0 ∷ load 0xC000 ∷ clk ∷ power_up 1 3 0 2 0 ∷ clk ∷ []);
       sights = volts 0 shows (1 ∷ 327680 ∷ 0 ∷ 163840 ∷ 0 ∷ 163840 ∷ []) ∷ [];
     }
     -- initialise starts nothing afresh, and its levels count: 8000h again

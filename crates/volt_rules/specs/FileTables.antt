@@ -1,7 +1,7 @@
 -- Session files, byte by byte, and the whole table that each of them gets (`Files-shown`; its proof is by computation).
 use Rattle.std.specs.Prelude.{ℕ, ◌≡◌, List, [], ◌∷◌, ◌++◌, replicate}
 use Rattle.volt_rules.specs.declared.Extremes.{Extremes}
-use Rattle.volt_rules.specs.Table.{tableRefusal, tableChannels, tableMemory}
+use Rattle.volt_rules.specs.Table.{table_refusal, table_channels, table_memory}
 use Rattle.volt_rules.specs.Examples.{scaled}
 
 -- a file and a sample memory, and what is to come of them: the refusal, the numbers of all twenty channels, the memory
@@ -13,9 +13,9 @@ pub record FileTable : Type 0 where
   pub left : List ℕ
 
 -- lowest, highest and last of each channel, signs and 65,536ths of a volt
-unfoldable pub tableNumbers : List Extremes → List ℕ
-tableNumbers [] = []
-tableNumbers (x ∷ xs) = scaled x.lowest ++ (scaled x.highest ++ (scaled x.last ++ tableNumbers xs))
+unfoldable pub table_numbers : List Extremes → List ℕ
+table_numbers [] = []
+table_numbers (x ∷ xs) = scaled x.lowest ++ (scaled x.highest ++ (scaled x.last ++ table_numbers xs))
 
 -- ---- Files
 
@@ -23,12 +23,12 @@ tableNumbers (x ∷ xs) = scaled x.lowest ++ (scaled x.highest ++ (scaled x.last
 abbrev pub junk : List ℕ
 junk = replicate 9 0xFFFFFFFF
 
-abbrev pub allZeros : List ℕ
-allZeros = replicate 120 0
+abbrev pub all_zeros : List ℕ
+all_zeros = replicate 120 0
 
 -- Two power-ups are accepted and a third is not, a value is lost, and the levels change afterwards.
-abbrev pub twoPowerUps : List ℕ
-twoPowerUps =
+abbrev pub two_power_ups : List ℕ
+two_power_ups =
     0x01
     -- range 2, the clock enabled, and 0000h on channel 0: 10 volts below zero
     ∷ 0x00 ∷ 0x07 ∷ 0x01 ∷ 0x00 ∷ 0x02 ∷ 0x00 ∷ 0x00 ∷ 0x00 ∷ 0x00
@@ -54,8 +54,8 @@ twoPowerUps =
     ∷ []
 
 -- range 1, channel 0 alone, the clock enabled, and 15432h, with its EOF, played: 5432h
-abbrev pub oneLevel : List ℕ
-oneLevel =
+abbrev pub one_level : List ℕ
+one_level =
     0x01
     ∷ 0x00 ∷ 0x07 ∷ 0x01 ∷ 0x00 ∷ 0x01 ∷ 0x00 ∷ 0x00 ∷ 0x00 ∷ 0x00
     ∷ 0x00 ∷ 0x06 ∷ 0x02 ∷ 0x04 ∷ 0x00 ∷ 0x00 ∷ 0x00 ∷ 0x01
@@ -65,13 +65,13 @@ oneLevel =
     ∷ []
 
 -- and 8000h after it
-abbrev pub backAgain : List ℕ
-backAgain = oneLevel ++ (0x00 ∷ 0x06 ∷ 0x02 ∷ 0x18 ∷ 0x00 ∷ 0x00 ∷ 0x80 ∷ 0x00 ∷ 0x00 ∷ 0x01 ∷ 0x04 ∷ [])
+abbrev pub back_again : List ℕ
+back_again = one_level ++ (0x00 ∷ 0x06 ∷ 0x02 ∷ 0x18 ∷ 0x00 ∷ 0x00 ∷ 0x80 ∷ 0x00 ∷ 0x00 ∷ 0x01 ∷ 0x04 ∷ [])
 
 -- range 0, channel 0 alone, the clock enabled; eight values fill the buffer, the ninth is lost to it; F000h, the first,
 -- is played, and a tenth takes its place
-abbrev pub ninthLost : List ℕ
-ninthLost =
+abbrev pub ninth_lost : List ℕ
+ninth_lost =
     0x01
     ∷ 0x00 ∷ 0x07 ∷ 0x01 ∷ 0x00 ∷ 0x00 ∷ 0x00 ∷ 0x00 ∷ 0x00 ∷ 0x00
     ∷ 0x00 ∷ 0x06 ∷ 0x02 ∷ 0x04 ∷ 0x00 ∷ 0x00 ∷ 0x00 ∷ 0x01
@@ -90,31 +90,31 @@ ninthLost =
     ∷ []
 
 -- a power-up that is refused, with range code 3
-abbrev pub notPowered : List ℕ
-notPowered = 0x01 ∷ 0x00 ∷ 0x07 ∷ 0x01 ∷ 0x00 ∷ 0x03 ∷ 0x00 ∷ 0x00 ∷ 0x00 ∷ 0x00 ∷ []
+abbrev pub not_powered : List ℕ
+not_powered = 0x01 ∷ 0x00 ∷ 0x07 ∷ 0x01 ∷ 0x00 ∷ 0x03 ∷ 0x00 ∷ 0x00 ∷ 0x00 ∷ 0x00 ∷ []
 
 -- ---- The table
 
-unfoldable pub fileTables : List FileTable
-fileTables =
+unfoldable pub file_tables : List FileTable
+file_tables =
     -- "another accepted power-up starts afresh": since the second one 2.5 volts below zero, 3.75 above and 0.625 at the end on channel 0; on
     -- channel 1 the same, but that 3.75 come at the end. "The sample memory is as the run left it": three values went round and filled it
     record {
-      bytes = twoPowerUps;
+      bytes = two_power_ups;
       lent = junk;
       refusal = 0;
       numbers = 1 ∷ 163840 ∷ 0 ∷ 245760 ∷ 0 ∷ 40960 ∷ 1 ∷ 163840 ∷ 0 ∷ 245760 ∷ 0 ∷ 245760 ∷ replicate 108 0;
       left = 0xE000 ∷ 0x9000 ∷ 0xE000 ∷ 0x4000 ∷ 0x9000 ∷ 0xE000 ∷ 0x4000 ∷ 0x9000 ∷ 0xFFFFFFFF ∷ [];
     }
     ∷ record {
-      bytes = oneLevel;
+      bytes = one_level;
       lent = junk;
       refusal = 0;
       numbers = 1 ∷ 112140 ∷ 0 ∷ 0 ∷ 1 ∷ 112140 ∷ replicate 114 0;
       left = 0x15432 ∷ replicate 8 0xFFFFFFFF;
     }
     ∷ record {
-      bytes = ninthLost;
+      bytes = ninth_lost;
       lent = junk;
       refusal = 0;
       numbers = 0 ∷ 0 ∷ 0 ∷ 143360 ∷ 0 ∷ 143360 ∷ replicate 114 0;
@@ -122,46 +122,46 @@ fileTables =
     }
     -- "Zero is positive zero", though it comes back from below
     ∷ record {
-      bytes = backAgain;
+      bytes = back_again;
       lent = junk;
       refusal = 0;
       numbers = 1 ∷ 112140 ∷ replicate 118 0;
       left = 0x15432 ∷ 0x8000 ∷ replicate 7 0xFFFFFFFF;
     }
     -- "18 when the session has no accepted power-up": no event at all; a power-up that is refused; one that is refused by a short memory
-    ∷ record { bytes = 0x01 ∷ []; lent = junk; refusal = 18; numbers = allZeros; left = junk }
-    ∷ record { bytes = notPowered; lent = junk; refusal = 18; numbers = allZeros; left = junk }
-    ∷ record { bytes = oneLevel; lent = 0xFFFFFFFF ∷ []; refusal = 18; numbers = allZeros; left = 0xFFFFFFFF ∷ [] }
+    ∷ record { bytes = 0x01 ∷ []; lent = junk; refusal = 18; numbers = all_zeros; left = junk }
+    ∷ record { bytes = not_powered; lent = junk; refusal = 18; numbers = all_zeros; left = junk }
+    ∷ record { bytes = one_level; lent = 0xFFFFFFFF ∷ []; refusal = 18; numbers = all_zeros; left = 0xFFFFFFFF ∷ [] }
     -- "file refusals 10 to 13 come first": with no power-up
-    ∷ record { bytes = []; lent = junk; refusal = 10; numbers = allZeros; left = junk }
-    ∷ record { bytes = 0x01 ∷ 0x00 ∷ []; lent = junk; refusal = 11; numbers = allZeros; left = junk }
-    ∷ record { bytes = 0x01 ∷ 0x00 ∷ 0x00 ∷ []; lent = junk; refusal = 12; numbers = allZeros; left = junk }
-    ∷ record { bytes = 0x01 ∷ 0x00 ∷ 0x01 ∷ 0x0A ∷ []; lent = junk; refusal = 13; numbers = allZeros; left = junk }
+    ∷ record { bytes = []; lent = junk; refusal = 10; numbers = all_zeros; left = junk }
+    ∷ record { bytes = 0x01 ∷ 0x00 ∷ []; lent = junk; refusal = 11; numbers = all_zeros; left = junk }
+    ∷ record { bytes = 0x01 ∷ 0x00 ∷ 0x00 ∷ []; lent = junk; refusal = 12; numbers = all_zeros; left = junk }
+    ∷ record { bytes = 0x01 ∷ 0x00 ∷ 0x01 ∷ 0x0A ∷ []; lent = junk; refusal = 13; numbers = all_zeros; left = junk }
     -- and after one: "all of them return all zeros", and the memory is as the run left it
     ∷ record {
-      bytes = oneLevel ++ (0x00 ∷ []);
+      bytes = one_level ++ (0x00 ∷ []);
       lent = junk;
       refusal = 11;
-      numbers = allZeros;
+      numbers = all_zeros;
       left = 0x15432 ∷ replicate 8 0xFFFFFFFF;
     }
     ∷ record {
-      bytes = oneLevel ++ (0x00 ∷ 0x01 ∷ 0x0A ∷ []);
+      bytes = one_level ++ (0x00 ∷ 0x01 ∷ 0x0A ∷ []);
       lent = junk;
       refusal = 13;
-      numbers = allZeros;
+      numbers = all_zeros;
       left = 0x15432 ∷ replicate 8 0xFFFFFFFF;
     }
     ∷ []
 
 pub record Gets (x : FileTable) : Type 0 where
-  pub refusal : tableRefusal x.bytes x.lent ≡ x.refusal
-  pub numbers : tableNumbers (tableChannels x.bytes x.lent) ≡ x.numbers
-  pub left : tableMemory x.bytes x.lent ≡ x.left
+  pub refusal : table_refusal x.bytes x.lent ≡ x.refusal
+  pub numbers : table_numbers (table_channels x.bytes x.lent) ≡ x.numbers
+  pub left : table_memory x.bytes x.lent ≡ x.left
 
 pub data AllGet : List FileTable → Type 0 where
   none : AllGet []
   next : {x : FileTable} {xs : List FileTable} → Gets x → AllGet xs → AllGet (x ∷ xs)
 
 abbrev pub Files-shown : Type 0
-Files-shown = AllGet fileTables
+Files-shown = AllGet file_tables

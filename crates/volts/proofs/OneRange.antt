@@ -8,26 +8,26 @@ use Rattle.rules.specs.declared.Board.{Board}
 use Rattle.rules.specs.Record.{State, start}
 use Rattle.rules.specs.Step.{step}
 use Rattle.rules.proofs.Choice.{cases}
-use Rattle.volt_rules.specs.Counting.{Counted, nothingCounted, startsAfresh, countEvent}
-use Rattle.volt_rules.proofs.Counting.{also-counted}
-use Rattle.volt_rules.proofs.Playing.{Sixteen, start-holds, event-holds}
-use Rattle.volt_rules.proofs.Tables.{event-sixteen}
+use Rattle.volt_rules.specs.Counting.{Counted, nothing_counted, starts_afresh, count_event}
+use Rattle.volt_rules.proofs.Counting.{also_counted}
+use Rattle.volt_rules.proofs.Playing.{Sixteen, start_holds, event_holds}
+use Rattle.volt_rules.proofs.Tables.{event_sixteen}
 use Rattle.volts.specs.Watching.{SameRange}
 
 abbrev pub Suits : Counted → Board → Type 0
 Suits w b = SameRange w b × Sixteen b.core.outputs.levels
 
-pub start-suits : (m : List ℕ) → Suits nothingCounted (start m).board
-start-suits m = (λ _. start-holds.0, start-holds.1)
+pub start_suits : (m : List ℕ) → Suits nothing_counted (start m).board
+start_suits m = (λ _. start_holds.0, start_holds.1)
 
 -- an event that starts nothing afresh keeps the range
-pub range-kept : (s : State) (e : Event) (w : Counted) → Suits w s.board → startsAfresh e (step s e) ≡ false → SameRange w (step s e).state.board
-range-kept s e w h f z = (event-holds _ s e f (refl, h.1)).0 ∙ h.0 z
+pub range_kept : (s : State) (e : Event) (w : Counted) → Suits w s.board → starts_afresh e (step s e) ≡ false → SameRange w (step s e).state.board
+range_kept s e w h f z = (event_holds _ s e f (refl, h.1)).0 ∙ h.0 z
 
-pub suits-on : (s : State) (e : Event) (w : Counted) → Suits w s.board → Suits (countEvent e (step s e) w) (step s e).state.board
-unfolding countEvent
-suits-on s e w h = (
-  cases (λ (v : Counted). SameRange v (step s e).state.board) (startsAfresh e (step s e)) (λ _ _. refl)
-      (λ f z. range-kept s e w h f (also-counted _ w.levels z)),
-  (event-sixteen s e (_, (refl, h.1))).1.1,
+pub suits_on : (s : State) (e : Event) (w : Counted) → Suits w s.board → Suits (count_event e (step s e) w) (step s e).state.board
+unfolding count_event
+suits_on s e w h = (
+  cases (λ (v : Counted). SameRange v (step s e).state.board) (starts_afresh e (step s e)) (λ _ _. refl)
+      (λ f z. range_kept s e w h f (also_counted _ w.levels z)),
+  (event_sixteen s e (_, (refl, h.1))).1.1,
 )

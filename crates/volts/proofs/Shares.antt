@@ -20,6 +20,6 @@ over (fin false a e) n h =
     round_same binary32 false (a * up e * 1) (65536 * down e) n 65536 (omega (arith, down_pos e)) (lit< tt) (omega (arith, h.1))
 over (fin true a e) n h = absurd (true≢false h.0)
 
-pub div-share : (n : ℕ) → n ≤ 16777216 → div binary32 (of_int binary32 (pos n)) (fin false 1 (pos 16)) ≡ share n
+pub div_share : (n : ℕ) → n ≤ 16777216 → div binary32 (of_int binary32 (pos n)) (fin false 1 (pos 16)) ≡ share n
 unfolding of_int
-div-share n h = over (round binary32 false n 1) n (round_whole binary32 false n h)
+div_share n h = over (round binary32 false n 1) n (round_whole binary32 false n h)

@@ -1,14 +1,14 @@
 // The table of volts for hosts in Rust and C. A slice is a pointer and then a length on their side, and the sixty numbers a pointer
 // (hosts/).
 ghost use Rattle.std.specs.Prelude.{◌≡◌};
-ghost use Rattle.volts.specs.Promises.{numbersOf, VoltsCalled};
+ghost use Rattle.volts.specs.Promises.{numbers_of, VoltsCalled};
 
 use crate::volts;
 use volt_rules::Extremes;
 
 // Three numbers a channel, channel after channel.
 fn sixty(channels: [Extremes; 20]) -> [f32; 60]
-    ensures { result ≡ numbersOf channels }
+    ensures { result ≡ numbers_of channels }
 {
     let mut numbers = [0.0f32; 60];
     let mut k: usize = 0;

@@ -1,6 +1,6 @@
 // The volts of a level, exactly.
 ghost use Rattle.std.specs.Prelude.{◌<◌, ◌≡◌};
-ghost use Rattle.volt_rules.specs.Volts.{factor, share, voltsOf};
+ghost use Rattle.volt_rules.specs.Volts.{factor, share, volts_of};
 
 // 02: "5, 10 or 20 for range 0, 1, 2"
 fn factor_of(range: u32) -> u32
@@ -23,7 +23,7 @@ fn share_of(n: u32) -> f32
 
 // Only what lies below 32,768 is negated: so zero is positive.
 pub(crate) fn volts_of(range: u32, level: u16) -> f32
-    ensures { result ≡ voltsOf range level }
+    ensures { result ≡ volts_of range level }
 {
     let k = factor_of(range);
     let n = level as u32;

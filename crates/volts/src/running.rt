@@ -1,8 +1,8 @@
 // The table of a session as it runs: until a power-up is accepted it is the one that 18 refuses, and from then on it is that of the
 // levels that counted.
 ghost use Rattle.std.specs.Prelude.{◌≡◌, ◌&&◌, eqb};
-ghost use Rattle.volt_rules.specs.Counting.{isPowerUp};
-ghost use Rattle.volts.specs.Watching.{AllEntered, RecordEntered, Watched, refusedTable, closedTable};
+ghost use Rattle.volt_rules.specs.Counting.{is_power_up};
+ghost use Rattle.volts.specs.Watching.{AllEntered, RecordEntered, Watched, refused_table, closed_table};
 
 use crate::channel::enter;
 use crate::levels::volts_of;
@@ -13,7 +13,7 @@ use volt_rules::{Extremes, Table};
 
 // 02: "all of them return all zeros"
 pub(crate) fn refused(refusal: u32) -> Table
-    ensures { result ≡ refusedTable refusal }
+    ensures { result ≡ refused_table refusal }
 {
     let zeros = Extremes {
         lowest: 0.0,
@@ -68,7 +68,7 @@ pub(crate) fn watch(t: Table, fresh: bool, b: Board) -> Table
 
 // An accepted power-up; initialise is none.
 pub(crate) fn starts_afresh(e: Event, refusal: u32) -> bool
-    ensures { result ≡ isPowerUp e && eqb refusal 0 }
+    ensures { result ≡ is_power_up e && eqb refusal 0 }
 {
     match e {
         Event::PowerUp(_) => refusal == 0,
@@ -80,7 +80,7 @@ pub(crate) fn starts_afresh(e: Event, refusal: u32) -> bool
 
 // 02: "file refusals 10 to 13 come first"
 pub(crate) fn close(t: Table, end: End) -> Table
-    ensures { result ≡ closedTable t end }
+    ensures { result ≡ closed_table t end }
 {
     match end {
         End::File => t,

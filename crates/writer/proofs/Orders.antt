@@ -8,11 +8,11 @@ use borrow.Author.Tests.{ltb-true, ltb-false}
 use lib.Count.{ones, ones-le}
 use lib.Dec.{ltb}
 use lib.ListN.{length}
-use Rattle.rules.proofs.Masks.{below-bits}
-use Rattle.cut_rules.specs.Cut.{Cut, groups, isGrouped, isChoice, cutRefusal}
-use Rattle.cut_rules.specs.Laws.{Grouped, GoodChoice, pastEnd, tooLong, done}
+use Rattle.rules.proofs.Masks.{below_bits}
+use Rattle.cut_rules.specs.Cut.{Cut, groups, is_grouped, is_choice, cut_refusal}
+use Rattle.cut_rules.specs.Laws.{Grouped, GoodChoice, past_end, too_long, done}
 use Rattle.writer.specs.Cutting.{values_of}
-use Rattle.cut_rules.proofs.Given.{grouped-to, choice-to, not-grouped, not_chosen, cut-exactly}
+use Rattle.cut_rules.proofs.Given.{grouped_to, choice_to, not_grouped, not_chosen, cut_exactly}
 
 -- ---- How many
 
@@ -20,36 +20,36 @@ use Rattle.cut_rules.proofs.Given.{grouped-to, choice-to, not-grouped, not_chose
 pub countable : (q : Cut) (n : ℕ) → Grouped q n → GoodChoice q n → length q.recording < 2 ^ 64
     → (q.first ≤ q.last) × (q.last - q.first + 1 < 2 ^ 64) × (values_of q.first q.last q.mask < 2 ^ 64)
 countable q n g c l =
-    let ones_small = ones-le q.channels q.mask (below-bits q.channels q.mask c.inside) in
-    let groups-small : suc q.last - q.first ≤ n = omega (arith, c.within) in
+    let ones_small = ones-le q.channels q.mask (below_bits q.channels q.mask c.inside) in
+    let groups_small : suc q.last - q.first ≤ n = omega (arith, c.within) in
     let whole = g.whole in (
       c.forward,
       omega (arith, c.within, le-mul_of_pos_right n g.some),
-      omega (arith, mul-le-mul groups-small ones_small),
+      omega (arith, mul-le-mul groups_small ones_small),
     )
 
 -- ---- Which refusal
 
 module _ (q : Cut) (n place : ℕ) where
-  pub ungrouped : isGrouped q ≡ false → 22 ≡ cutRefusal q n place
-  ungrouped e = sym ((cut-exactly q n place 22).1 (not-grouped q n place e))
+  pub ungrouped : is_grouped q ≡ false → 22 ≡ cut_refusal q n place
+  ungrouped e = sym ((cut_exactly q n place 22).1 (not_grouped q n place e))
 
-  module _ (e : isGrouped q ≡ true) where
-    pub unchosen : isChoice q ≡ false → 23 ≡ cutRefusal q n place
-    unchosen f = sym ((cut-exactly q n place 23).1 (not_chosen q n place (grouped-to q e) f))
+  module _ (e : is_grouped q ≡ true) where
+    pub unchosen : is_choice q ≡ false → 23 ≡ cut_refusal q n place
+    unchosen f = sym ((cut_exactly q n place 23).1 (not_chosen q n place (grouped_to q e) f))
 
-    module _ (f : isChoice q ≡ true) where
-      pub place-past : n < place → 20 ≡ cutRefusal q n place
-      place-past l = sym ((cut-exactly q n place 20).1 (pastEnd _ (grouped-to q e) (choice-to q f) l))
+    module _ (f : is_choice q ≡ true) where
+      pub place_past : n < place → 20 ≡ cut_refusal q n place
+      place_past l = sym ((cut_exactly q n place 20).1 (past_end _ (grouped_to q e) (choice_to q f) l))
 
       module _ (l : place ≤ n) (values : ℕ) (counted : values ≡ groups q * ones q.mask)
           (t : Bool) (asked : t ≡ ltb (n - place) (1 + 8 * (1 + values))) where
-        pub no_room : t ≡ true → 21 ≡ cutRefusal q n place
+        pub no_room : t ≡ true → 21 ≡ cut_refusal q n place
         no_room s =
             let h = ltb-true (n - place) (1 + 8 * (1 + values)) (sym asked ∙ s) in
-            sym ((cut-exactly q n place 21).1 (tooLong _ (grouped-to q e) (choice-to q f) l (omega (arith, counted))))
+            sym ((cut_exactly q n place 21).1 (too_long _ (grouped_to q e) (choice_to q f) l (omega (arith, counted))))
 
-        pub unrefused : t ≡ false → 0 ≡ cutRefusal q n place
+        pub unrefused : t ≡ false → 0 ≡ cut_refusal q n place
         unrefused s =
             let h = ltb-false (n - place) (1 + 8 * (1 + values)) (sym asked ∙ s) in
-            sym ((cut-exactly q n place 0).1 (done _ (grouped-to q e) (choice-to q f) (omega (arith, counted))))
+            sym ((cut_exactly q n place 0).1 (done _ (grouped_to q e) (choice_to q f) (omega (arith, counted))))

@@ -9,31 +9,31 @@ use borrow.Author.Tests.{eqb-true, eqb-false}
 use lib.Dec.{eqb}
 use lib.ListN.{length, drop}
 use lib.Seq.{drop-drop}
-use Rattle.file_rules.specs.Bytes.{bytes_of, recordsOf, fileOf}
-use Rattle.file_rules.specs.Row.{eventOfRow}
-use Rattle.file_rules.specs.Writing.{sixes, rowsIn, eventsIn, rowRefusal, firstBad}
-use Rattle.file_rules.proofs.WritesGiven.{first_good, first-refused}
-use Rattle.writer.specs.RowsFrom.{rows_from, row_at, recordsFrom}
+use Rattle.file_rules.specs.Bytes.{bytes_of, records_of, file_of}
+use Rattle.file_rules.specs.Row.{event_of_row}
+use Rattle.file_rules.specs.Writing.{sixes, rows_in, events_in, row_refusal, first_bad}
+use Rattle.file_rules.proofs.WritesGiven.{first_good, first_refused}
+use Rattle.writer.specs.RowsFrom.{rows_from, row_at, records_from}
 
 module _ (xs : List ℕ) where
-  pub from_start : rows_from xs 0 ≡ rowsIn xs
+  pub from_start : rows_from xs 0 ≡ rows_in xs
   from_start = let e : (length xs - 0) / 6 ≡ length xs / 6 = omega arith in ap (λ (n : ℕ). sixes n xs) e
 
-  pub file-start : 1 ∷ recordsFrom xs 0 ≡ fileOf (eventsIn xs)
-  unfolding eventsIn fileOf
-  file-start = ap (λ (rs : List (List ℕ)). 1 ∷ recordsOf (map eventOfRow rs)) from_start
+  pub file_start : 1 ∷ records_from xs 0 ≡ file_of (events_in xs)
+  unfolding events_in file_of
+  file_start = ap (λ (rs : List (List ℕ)). 1 ∷ records_of (map event_of_row rs)) from_start
 
-  pub from-over : (at : ℕ) → length xs ≤ at → rows_from xs at ≡ []
+  pub from_over : (at : ℕ) → length xs ≤ at → rows_from xs at ≡ []
   unfolding sixes
-  from-over at h = let e : (length xs - at) / 6 ≡ 0 = omega arith in ap (λ (n : ℕ). sixes n (drop at xs)) e
+  from_over at h = let e : (length xs - at) / 6 ≡ 0 = omega arith in ap (λ (n : ℕ). sixes n (drop at xs)) e
 
-  pub none-bad-over : (at : ℕ) → length xs ≤ at → firstBad (rows_from xs at) ≡ 0
-  unfolding firstBad
-  none-bad-over at h = ap firstBad (from-over at h)
+  pub none_bad_over : (at : ℕ) → length xs ≤ at → first_bad (rows_from xs at) ≡ 0
+  unfolding first_bad
+  none_bad_over at h = ap first_bad (from_over at h)
 
-  pub records-over : (at : ℕ) → length xs ≤ at → recordsFrom xs at ≡ []
-  unfolding recordsOf
-  records-over at h = ap (λ (rs : List (List ℕ)). recordsOf (map eventOfRow rs)) (from-over at h)
+  pub records_over : (at : ℕ) → length xs ≤ at → records_from xs at ≡ []
+  unfolding records_of
+  records_over at h = ap (λ (rs : List (List ℕ)). records_of (map event_of_row rs)) (from_over at h)
 
   module _ (at : ℕ) (h : at + 6 ≤ length xs) where
     from_next : rows_from xs at ≡ row_at xs at ∷ rows_from xs (at + 6)
@@ -42,20 +42,20 @@ module _ (xs : List ℕ) where
         let e : (length xs - at) / 6 ≡ suc ((length xs - (at + 6)) / 6) = omega arith in
         ap (λ (n : ℕ). sixes n (drop at xs)) e ∙ (λ i. row_at xs at ∷ sixes ((length xs - (at + 6)) / 6) (drop-drop 6 at xs i))
 
-    pub records-next : bytes_of (eventOfRow (row_at xs at)) ++ recordsFrom xs (at + 6) ≡ recordsFrom xs at
-    unfolding recordsOf
-    records-next = sym (ap (λ (rs : List (List ℕ)). recordsOf (map eventOfRow rs)) from_next)
+    pub records_next : bytes_of (event_of_row (row_at xs at)) ++ records_from xs (at + 6) ≡ records_from xs at
+    unfolding records_of
+    records_next = sym (ap (λ (rs : List (List ℕ)). records_of (map event_of_row rs)) from_next)
 
-    pub passed_over : rowRefusal (row_at xs at) ≡ 0 → firstBad (rows_from xs at) ≡ firstBad (rows_from xs (at + 6))
-    passed_over z = ap firstBad from_next ∙ first_good (row_at xs at) (rows_from xs (at + 6)) z
+    pub passed_over : row_refusal (row_at xs at) ≡ 0 → first_bad (rows_from xs at) ≡ first_bad (rows_from xs (at + 6))
+    passed_over z = ap first_bad from_next ∙ first_good (row_at xs at) (rows_from xs (at + 6)) z
 
-    pub decides : rowRefusal (row_at xs at) ≢ 0 → firstBad (rows_from xs at) ≡ rowRefusal (row_at xs at)
-    decides n = ap firstBad from_next ∙ first-refused (row_at xs at) (rows_from xs (at + 6)) n
+    pub decides : row_refusal (row_at xs at) ≢ 0 → first_bad (rows_from xs at) ≡ row_refusal (row_at xs at)
+    decides n = ap first_bad from_next ∙ first_refused (row_at xs at) (rows_from xs (at + 6)) n
 
     -- where none is bad this one is not
-    pub none-bad-here : firstBad (rows_from xs at) ≡ 0 → rowRefusal (row_at xs at) ≡ 0
-    none-bad-here z = go (eqb (rowRefusal (row_at xs at)) 0) refl
+    pub none_bad_here : first_bad (rows_from xs at) ≡ 0 → row_refusal (row_at xs at) ≡ 0
+    none_bad_here z = go (eqb (row_refusal (row_at xs at)) 0) refl
       where
-        go : (t : Bool) → eqb (rowRefusal (row_at xs at)) 0 ≡ t → rowRefusal (row_at xs at) ≡ 0
+        go : (t : Bool) → eqb (row_refusal (row_at xs at)) 0 ≡ t → row_refusal (row_at xs at) ≡ 0
         go true e = eqb-true _ 0 e
         go false e = sym (decides (eqb-false _ 0 e)) ∙ z

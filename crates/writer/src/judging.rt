@@ -1,6 +1,6 @@
 // What is wrong with a call, before anything is written.
 ghost use Rattle.std.specs.Prelude.{◌+◌, ◌*◌, ◌/◌, ◌%◌, ◌≤◌, ◌≡◌, ltb, length};
-ghost use Rattle.file_rules.specs.Writing.{writeRefusal};
+ghost use Rattle.file_rules.specs.Writing.{write_refusal};
 ghost use Rattle.writer.specs.RowsFrom.{Judges, JudgesRow};
 
 use crate::rows::{row_at, row_refusal};
@@ -67,7 +67,7 @@ fn is_short(room: usize, n: usize, fields: usize) -> bool
 
 // 02: "32 a slice not of whole events, first; 13 .., 30 .., 20 a place past the output's end, 21 when the whole session doesn't fit"
 pub(crate) fn refusal_of(rows: &[u32], length: usize, place: usize) -> u32
-    ensures { result ≡ writeRefusal rows.now length place }
+    ensures { result ≡ write_refusal rows.now length place }
 {
     if rows.len() % 6 != 0 {
         return 32;

@@ -1,12 +1,12 @@
 // The session of a cut, written where there is room for it.
 ghost use Rattle.std.specs.Prelude.{ℕ, ◌+◌, ◌*◌, ◌^◌, ◌≤◌, ◌<◌, ◌≡◌, ◌∷◌, length};
 ghost use Rattle.rules.specs.declared.Event.TheVariants.{Write as write};
-ghost use Rattle.rules.specs.Bits.{activeFrom};
+ghost use Rattle.rules.specs.Bits.{active_from};
 ghost use Rattle.laws.specs.Moved.{Among};
-ghost use Rattle.file_rules.specs.Bytes.{bytes_of, fileOf};
+ghost use Rattle.file_rules.specs.Bytes.{bytes_of, file_of};
 ghost use Rattle.file_rules.specs.Pieces.{Piece};
-ghost use Rattle.cut_rules.specs.Cut.{events, cutRefusal};
-ghost use Rattle.writer.specs.Cutting.{groupAt, loadRecord, loadRecords};
+ghost use Rattle.cut_rules.specs.Cut.{events, cut_refusal};
+ghost use Rattle.writer.specs.Cutting.{group_at, load_record, load_records};
 ghost use Rattle.writer.specs.Promises.{cut_of};
 
 use crate::order::values_of;
@@ -16,7 +16,7 @@ use crate::records::put_write;
 // The load of a value. 02: "EOF on the very last and on no other": the one whose record ends where the session does.
 fn put_load(value: u16, end: usize, out: &mut [u8], at: usize) -> usize
     requires { at + 8 ≤ length out.old }
-    ensures { Piece out.old at (loadRecord end at value) out.new result }
+    ensures { Piece out.old at (load_record end at value) out.new result }
 {
     if at + 8 == end {
         return put_write(out, at, 0x18, value as u32 + 0x10000);
@@ -35,9 +35,9 @@ fn put_group(
     to: usize,
 ) -> usize
     requires small { mask < 2 ^ 20 }
-    requires inside { (k : ℕ) → Among k (activeFrom 0 mask) → base + k < length recording.now }
-    requires room { to + 8 * length (activeFrom 0 mask) ≤ length out.old }
-    ensures { Piece out.old to (loadRecords end to (groupAt recording.now base (activeFrom 0 mask))) out.new result }
+    requires inside { (k : ℕ) → Among k (active_from 0 mask) → base + k < length recording.now }
+    requires room { to + 8 * length (active_from 0 mask) ≤ length out.old }
+    ensures { Piece out.old to (load_records end to (group_at recording.now base (active_from 0 mask))) out.new result }
 {
     let mut at = to;
     let mut waiting = mask;
@@ -68,8 +68,8 @@ pub(crate) fn put_cut(
     out: &mut [u8],
     place: usize,
 ) -> usize
-    requires { cutRefusal (cut_of recording.now channels first last mask) (length out.old) place ≡ 0 }
-    ensures { Piece out.old place (fileOf (events (cut_of recording.now channels first last mask))) out.new result }
+    requires { cut_refusal (cut_of recording.now channels first last mask) (length out.old) place ≡ 0 }
+    ensures { Piece out.old place (file_of (events (cut_of recording.now channels first last mask))) out.new result }
 {
     let end = place + 9 + 8 * values_of(first, last, mask);
     let mut to = put_mask(mask, out, place);

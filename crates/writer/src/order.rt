@@ -1,12 +1,12 @@
 // What is wrong with the order of a cut, before anything is written.
 ghost use Rattle.std.specs.Prelude.{ℕ, ◌+◌, ◌*◌, ◌-◌, ◌^◌, ◌≤◌, ◌<◌, ◌≡◌, ltb};
-ghost use Rattle.cut_rules.specs.Cut.{isGrouped, isChoice, cutRefusal};
+ghost use Rattle.cut_rules.specs.Cut.{is_grouped, is_choice, cut_refusal};
 ghost use Rattle.writer.specs.Cutting.{values_of};
 ghost use Rattle.writer.specs.Promises.{cut_of};
 
 // 02: "channels in a group .. 1 to 20", and the length a whole number of groups. Of no channels no remainder is taken.
 fn is_grouped(recording: &[u16], channels: u32) -> bool
-    ensures { (first last mask : ℕ) → result ≡ isGrouped (cut_of recording.now channels first last mask) }
+    ensures { (first last mask : ℕ) → result ≡ is_grouped (cut_of recording.now channels first last mask) }
 {
     if channels == 0 {
         return false;
@@ -17,7 +17,7 @@ fn is_grouped(recording: &[u16], channels: u32) -> bool
 // 02: "empty choice, a channel outside the group, or groups out of range or reversed": none of these.
 fn is_choice(recording: &[u16], channels: u32, first: usize, last: usize, mask: u32) -> bool
     requires { (1 ≤ channels) × (channels ≤ 20) }
-    ensures { result ≡ isChoice (cut_of recording.now channels first last mask) }
+    ensures { result ≡ is_choice (cut_of recording.now channels first last mask) }
 {
     (mask != 0)
         & ((mask < 1 << channels)
@@ -54,7 +54,7 @@ pub(crate) fn cut_refusal(
     length: usize,
     place: usize,
 ) -> u32
-    ensures { result ≡ cutRefusal (cut_of recording.now channels first last mask) length place }
+    ensures { result ≡ cut_refusal (cut_of recording.now channels first last mask) length place }
 {
     if !is_grouped(recording, channels) {
         return 22;

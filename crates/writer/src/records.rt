@@ -2,10 +2,10 @@
 ghost use Rattle.std.specs.Prelude.{◌+◌, ◌%◌, ◌≤◌, ◌<◌, ◌≡◌, [], ◌∷◌, ◌++◌, length};
 ghost use Rattle.rules.specs.declared.Event.TheVariants.{Write as write};
 ghost use Rattle.file_rules.specs.File.{length_of};
-ghost use Rattle.file_rules.specs.Bytes.{two, four, fields_of, bytes_of, fileOf};
-ghost use Rattle.file_rules.specs.Row.{eventOfRow};
+ghost use Rattle.file_rules.specs.Bytes.{two, four, fields_of, bytes_of, file_of};
+ghost use Rattle.file_rules.specs.Row.{event_of_row};
 ghost use Rattle.file_rules.specs.Pieces.{Piece};
-ghost use Rattle.file_rules.specs.Writing.{eventsIn, rowRefusal, writeRefusal};
+ghost use Rattle.file_rules.specs.Writing.{events_in, row_refusal, write_refusal};
 
 use crate::pieces::{put_four, put_one, put_two};
 use crate::rows::row_at;
@@ -52,8 +52,8 @@ fn put_settings(out: &mut [u8], at: usize, a: u32, b: u32, c: u32, d: u32, e: u3
 
 // The fields of a good row.
 fn put_fields(out: &mut [u8], at: usize, row: [u32; 6]) -> usize
-    requires { (rowRefusal row ≡ 0) × (at + length (fields_of (eventOfRow row)) ≤ length out.old) }
-    ensures { Piece out.old at (fields_of (eventOfRow row)) out.new result }
+    requires { (row_refusal row ≡ 0) × (at + length (fields_of (event_of_row row)) ≤ length out.old) }
+    ensures { Piece out.old at (fields_of (event_of_row row)) out.new result }
 {
     let kind = row[0];
     match kind {
@@ -66,8 +66,8 @@ fn put_fields(out: &mut [u8], at: usize, row: [u32; 6]) -> usize
 
 // The record of a good row.
 fn put_record(out: &mut [u8], at: usize, row: [u32; 6]) -> usize
-    requires { (rowRefusal row ≡ 0) × (at + length (bytes_of (eventOfRow row)) ≤ length out.old) }
-    ensures { Piece out.old at (bytes_of (eventOfRow row)) out.new result }
+    requires { (row_refusal row ≡ 0) × (at + length (bytes_of (event_of_row row)) ≤ length out.old) }
+    ensures { Piece out.old at (bytes_of (event_of_row row)) out.new result }
 {
     let p = put_head(out, at, row[0]);
     put_fields(out, p, row)
@@ -75,8 +75,8 @@ fn put_record(out: &mut [u8], at: usize, row: [u32; 6]) -> usize
 
 // 01: "Byte 01, then records"
 pub(crate) fn put_session(rows: &[u32], out: &mut [u8], place: usize) -> usize
-    requires { writeRefusal rows.now (length out.old) place ≡ 0 }
-    ensures { Piece out.old place (fileOf (eventsIn rows.now)) out.new result }
+    requires { write_refusal rows.now (length out.old) place ≡ 0 }
+    ensures { Piece out.old place (file_of (events_in rows.now)) out.new result }
 {
     let mut to = put_one(out, place, 1);
     let mut at: usize = 0;

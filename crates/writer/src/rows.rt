@@ -1,6 +1,6 @@
 // A row of a slice, and what is wrong with it.
 ghost use Rattle.std.specs.Prelude.{◌+◌, ◌≤◌, ◌≡◌, [], ◌∷◌, length};
-ghost use Rattle.file_rules.specs.Writing.{widths, fitWidths, rowRefusal};
+ghost use Rattle.file_rules.specs.Writing.{widths, fit_widths, row_refusal};
 ghost use Rattle.writer.specs.RowsFrom.{row_at};
 
 use kinds::length_of;
@@ -22,21 +22,21 @@ pub(crate) fn row_at(rows: &[u32], at: usize) -> [u32; 6]
 
 // Fields that the kind has not.
 fn are_none(c: u32, d: u32, e: u32) -> bool
-    ensures { result ≡ fitWidths (c ∷ d ∷ e ∷ []) (0 ∷ 0 ∷ 0 ∷ []) }
+    ensures { result ≡ fit_widths (c ∷ d ∷ e ∷ []) (0 ∷ 0 ∷ 0 ∷ []) }
 {
     (c == 0) & ((d == 0) & (e == 0))
 }
 
 // 01: "power-up (d, range, filter, kit, firmware in two bytes)"
 fn are_settings(a: u32, b: u32, c: u32, d: u32, e: u32) -> bool
-    ensures { result ≡ fitWidths (a ∷ b ∷ c ∷ d ∷ e ∷ []) (1 ∷ 1 ∷ 1 ∷ 1 ∷ 2 ∷ []) }
+    ensures { result ≡ fit_widths (a ∷ b ∷ c ∷ d ∷ e ∷ []) (1 ∷ 1 ∷ 1 ∷ 1 ∷ 2 ∷ []) }
 {
     (a < 256) & ((b < 256) & ((c < 256) & ((d < 256) & (e < 65536))))
 }
 
 // 02: "a field too large for its bytes or not 0 where the kind has none". The value of a write has four bytes, and takes every number.
 fn fits_widths(kind: u32, a: u32, b: u32, c: u32, d: u32, e: u32) -> bool
-    ensures { result ≡ fitWidths (a ∷ b ∷ c ∷ d ∷ e ∷ []) (widths kind) }
+    ensures { result ≡ fit_widths (a ∷ b ∷ c ∷ d ∷ e ∷ []) (widths kind) }
 {
     match kind {
         1 => are_settings(a, b, c, d, e),
@@ -48,7 +48,7 @@ fn fits_widths(kind: u32, a: u32, b: u32, c: u32, d: u32, e: u32) -> bool
 
 // 02: "13 an unknown kind, 30 a field ..", in this order; 0 where the row is that of an event.
 pub(crate) fn row_refusal(r: [u32; 6]) -> u32
-    ensures { result ≡ rowRefusal r }
+    ensures { result ≡ row_refusal r }
 {
     let kind = r[0];
     if length_of(kind) == 0 {

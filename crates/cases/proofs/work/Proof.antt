@@ -6,47 +6,47 @@ use lib.ListN.{length}
 use Rattle.cases.proofs.work.Statement.{statement}
 use Rattle.cases.proofs.work.Tie as tie
 
-abbrev invariant-loop : tie.invariant-loop
-invariant-loop text desk₀ i₀ desk i = Unit {0}
+abbrev invariant_loop : tie.invariant_loop
+invariant_loop text desk₀ i₀ desk i = Unit {0}
 
-abbrev decreases-loop : tie.decreases-loop
-decreases-loop text desk₀ i₀ desk i = length text - i
+abbrev decreases_loop : tie.decreases_loop
+decreases_loop text desk₀ i₀ desk i = length text - i
 
-cleared-requires : tie.Need-cleared-requires invariant-loop decreases-loop
-cleared-requires c κs = search rules
+cleared_requires : tie.Need-cleared-requires invariant_loop decreases_loop
+cleared_requires c κs = search rules
 
-loop-holds : tie.Need-loop-init invariant-loop decreases-loop
-loop-holds c = search rules
+loop_holds : tie.Need-loop-init invariant_loop decreases_loop
+loop_holds c = search rules
 
-shared-slice-read-read : tie.Need-shared-slice-read-read invariant-loop decreases-loop
-shared-slice-read-read c = search rules
+shared_slice_read_read : tie.Need-shared-slice-read-read invariant_loop decreases_loop
+shared_slice_read_read c = search rules
 
-read-requires : tie.Need-read-requires invariant-loop decreases-loop
-read-requires c κs = search rules
+read_requires : tie.Need-read-requires invariant_loop decreases_loop
+read_requires c κs = search rules
 
-add-i : tie.Need-overflow-add-i invariant-loop decreases-loop
-add-i c = search rules
+add_i : tie.Need-overflow-add-i invariant_loop decreases_loop
+add_i c = search rules
 
-loop-less : tie.Need-loop-smaller invariant-loop decreases-loop
-loop-less c = search rules
+loop_less : tie.Need-loop-smaller invariant_loop decreases_loop
+loop_less c = search rules
 
-loop-again : tie.Need-loop-preserved invariant-loop decreases-loop
-loop-again c = search rules
+loop_again : tie.Need-loop-preserved invariant_loop decreases_loop
+loop_again c = search rules
 
-returns : tie.Need-returns invariant-loop decreases-loop
+returns : tie.Need-returns invariant_loop decreases_loop
 returns c = search rules
 
-pub work-spec : {M : Type 1} → statement M
-work-spec =
+pub work_spec : {M : Type 1} → statement M
+work_spec =
     tie.close
     (tie.spec
-    invariant-loop
-    decreases-loop
-    cleared-requires
-    loop-holds
-    shared-slice-read-read
-    read-requires
-    add-i
-    loop-less
-    loop-again
+    invariant_loop
+    decreases_loop
+    cleared_requires
+    loop_holds
+    shared_slice_read_read
+    read_requires
+    add_i
+    loop_less
+    loop_again
     returns)

@@ -6,75 +6,75 @@ use borrow.Author.Rules.{rules}
 use Rattle.console.proofs.read_all.Statement.{statement}
 use Rattle.console.proofs.read_all.Tie as tie
 
-abbrev invariant-loop : tie.invariant-loop
-invariant-loop fd buf₀ n₀ buf n = (n ≤ length buf) × (length buf ≡ length buf₀)
+abbrev invariant_loop : tie.invariant_loop
+invariant_loop fd buf₀ n₀ buf n = (n ≤ length buf) × (length buf ≡ length buf₀)
 
-abbrev decreases-loop : tie.decreases-loop
-decreases-loop fd buf₀ n₀ buf n = length buf - n
+abbrev decreases_loop : tie.decreases_loop
+decreases_loop fd buf₀ n₀ buf n = length buf - n
 
-loop-holds : tie.Need-loop-init invariant-loop decreases-loop
-loop-holds c = search rules
+loop_holds : tie.Need-loop-init invariant_loop decreases_loop
+loop_holds c = search rules
 
-sub-rest : tie.Need-overflow-sub-rest invariant-loop decreases-loop
-sub-rest c = search rules
+sub_rest : tie.Need-overflow-sub-rest invariant_loop decreases_loop
+sub_rest c = search rules
 
-part-rest-start : tie.Need-slice-bounds-rest-start invariant-loop decreases-loop
-part-rest-start c = search rules
+part_rest_start : tie.Need-slice-bounds-rest-start invariant_loop decreases_loop
+part_rest_start c = search rules
 
-part-rest-end : tie.Need-slice-bounds-rest-end invariant-loop decreases-loop
-part-rest-end c = search rules
+part_rest_end : tie.Need-slice-bounds-rest-end invariant_loop decreases_loop
+part_rest_end c = search rules
 
-read-requires : tie.Need-read-requires invariant-loop decreases-loop
-read-requires c κs = search rules
+read_requires : tie.Need-read-requires invariant_loop decreases_loop
+read_requires c κs = search rules
 
-same_length : tie.Need-same-length invariant-loop decreases-loop
+same_length : tie.Need-same-length invariant_loop decreases_loop
 same_length c = search rules
 
-returns : tie.Need-returns invariant-loop decreases-loop
+returns : tie.Need-returns invariant_loop decreases_loop
 returns c = search rules
 
-count-requires : tie.Need-count-requires invariant-loop decreases-loop
-count-requires c κs = search rules
+count_requires : tie.Need-count-requires invariant_loop decreases_loop
+count_requires c κs = search rules
 
-same-length-2 : tie.Need-same-length-2 invariant-loop decreases-loop
-same-length-2 c = search rules
+same_length_2 : tie.Need-same-length-2 invariant_loop decreases_loop
+same_length_2 c = search rules
 
-returns-2 : tie.Need-returns-2 invariant-loop decreases-loop
-returns-2 c = search rules
+returns_2 : tie.Need-returns-2 invariant_loop decreases_loop
+returns_2 c = search rules
 
-add-n : tie.Need-overflow-add-n invariant-loop decreases-loop
-add-n c = search rules
+add_n : tie.Need-overflow-add-n invariant_loop decreases_loop
+add_n c = search rules
 
-loop-less : tie.Need-loop-smaller invariant-loop decreases-loop
-loop-less c = search rules
+loop_less : tie.Need-loop-smaller invariant_loop decreases_loop
+loop_less c = search rules
 
-loop-again : tie.Need-loop-preserved invariant-loop decreases-loop
-loop-again c = search rules
+loop_again : tie.Need-loop-preserved invariant_loop decreases_loop
+loop_again c = search rules
 
-same-length-3 : tie.Need-same-length-3 invariant-loop decreases-loop
-same-length-3 c = search rules
+same_length_3 : tie.Need-same-length-3 invariant_loop decreases_loop
+same_length_3 c = search rules
 
-returns-3 : tie.Need-returns-3 invariant-loop decreases-loop
-returns-3 c = search rules
+returns_3 : tie.Need-returns-3 invariant_loop decreases_loop
+returns_3 c = search rules
 
-pub read-all-spec : {M : Type 1} → statement M
-read-all-spec =
+pub read_all_spec : {M : Type 1} → statement M
+read_all_spec =
     tie.close
     (tie.spec
-    invariant-loop
-    decreases-loop
-    loop-holds
-    sub-rest
-    part-rest-start
-    part-rest-end
-    read-requires
+    invariant_loop
+    decreases_loop
+    loop_holds
+    sub_rest
+    part_rest_start
+    part_rest_end
+    read_requires
     same_length
     returns
-    count-requires
-    same-length-2
-    returns-2
-    add-n
-    loop-less
-    loop-again
-    same-length-3
-    returns-3)
+    count_requires
+    same_length_2
+    returns_2
+    add_n
+    loop_less
+    loop_again
+    same_length_3
+    returns_3)

@@ -15,8 +15,8 @@ counts n xs h = (h, sym (length-take-le n xs h))
 returns : tie.Need-returns
 returns c = (counts _ _ (omega arith), omega arith)
 
-returns-2 : tie.Need-returns-2
-returns-2 c = (counts _ _ (omega arith), omega arith)
+returns_2 : tie.Need-returns-2
+returns_2 c = (counts _ _ (omega arith), omega arith)
 
-pub within-spec : {M : Type 1} → statement M
-within-spec = tie.close (tie.spec returns returns-2)
+pub within_spec : {M : Type 1} → statement M
+within_spec = tie.close (tie.spec returns returns_2)

@@ -9,5 +9,5 @@ use Rattle.examples.proofs.listing_room.Tie as tie
 returns : tie.Need-returns
 returns c = sym (length-replicate {0} {A = ℕ} 721056 0)
 
-pub listing-room-spec : {M : Type 1} → statement M
-listing-room-spec = tie.close (tie.spec returns)
+pub listing_room_spec : {M : Type 1} → statement M
+listing_room_spec = tie.close (tie.spec returns)

@@ -4,111 +4,111 @@ use mathlib.Core.Path.{sym, ◌∙◌}
 use native.Mathlib.Omega.{arith}
 use borrow.Author.Rules.{rules}
 use lib.ListN.{length}
-use Rattle.hex.proofs.Rests.{Sofar, sofar-start, sofar-length, sofar-passed, sofar-byte, sofar-full, sofar-fault, sofar-end}
+use Rattle.hex.proofs.Rests.{Sofar, sofar_start, sofar_length, sofar_passed, sofar_byte, sofar_full, sofar_fault, sofar_end}
 use Rattle.hex.proofs.decode.Statement.{statement}
 use Rattle.hex.proofs.decode.Tie as tie
 
-abbrev invariant-loop : tie.invariant-loop
-invariant-loop text out₀ at₀ comment₀ n₀ out at comment n = Sofar text out₀ out at comment n
+abbrev invariant_loop : tie.invariant_loop
+invariant_loop text out₀ at₀ comment₀ n₀ out at comment n = Sofar text out₀ out at comment n
 
-abbrev decreases-loop : tie.decreases-loop
-decreases-loop text out₀ at₀ comment₀ n₀ out at comment n = length text - at
+abbrev decreases_loop : tie.decreases_loop
+decreases_loop text out₀ at₀ comment₀ n₀ out at comment n = length text - at
 
-opening-requires : tie.Need-opening-requires invariant-loop decreases-loop
-opening-requires c κs = search rules
+opening_requires : tie.Need-opening-requires invariant_loop decreases_loop
+opening_requires c κs = search rules
 
-loop-holds : tie.Need-loop-init invariant-loop decreases-loop
-loop-holds c = sofar-start _ _ _ c.opening.ensures
+loop_holds : tie.Need-loop-init invariant_loop decreases_loop
+loop_holds c = sofar_start _ _ _ c.opening.ensures
 
-mark-at-requires : tie.Need-mark-at-requires invariant-loop decreases-loop
-mark-at-requires c κs = search rules
+mark_at_requires : tie.Need-mark-at-requires invariant_loop decreases_loop
+mark_at_requires c κs = search rules
 
-enum-known-mark : tie.Need-enum-known-mark invariant-loop decreases-loop
-enum-known-mark c = search rules
+enum_known_mark : tie.Need-enum-known-mark invariant_loop decreases_loop
+enum_known_mark c = search rules
 
-add_at : tie.Need-overflow-add-at invariant-loop decreases-loop
+add_at : tie.Need-overflow-add-at invariant_loop decreases_loop
 add_at c = search rules
 
-loop-less : tie.Need-loop-smaller invariant-loop decreases-loop
-loop-less c = search rules
+loop_less : tie.Need-loop-smaller invariant_loop decreases_loop
+loop_less c = search rules
 
-loop-again : tie.Need-loop-preserved invariant-loop decreases-loop
-loop-again c =
+loop_again : tie.Need-loop-preserved invariant_loop decreases_loop
+loop_again c =
     let m = c.before.before.before in
     let l = m.before.before.loop in
-    sofar-passed _ _ _ _ _ _ l.invariant (omega arith) _ (sym c.before.mark.given.1 ∙ m.mark-at.ensures)
+    sofar_passed _ _ _ _ _ _ l.invariant (omega arith) _ (sym c.before.mark.given.1 ∙ m.mark-at.ensures)
 
-enum-known-mark-2 : tie.Need-enum-known-mark-2 invariant-loop decreases-loop
-enum-known-mark-2 c = search rules
+enum_known_mark_2 : tie.Need-enum-known-mark-2 invariant_loop decreases_loop
+enum_known_mark_2 c = search rules
 
-same_length : tie.Need-same-length invariant-loop decreases-loop
-same_length c = sofar-length _ _ _ _ _ _ c.before.before.before.before.before.before.loop.invariant
+same_length : tie.Need-same-length invariant_loop decreases_loop
+same_length c = sofar_length _ _ _ _ _ _ c.before.before.before.before.before.before.loop.invariant
 
-returns : tie.Need-returns invariant-loop decreases-loop
+returns : tie.Need-returns invariant_loop decreases_loop
 returns c =
     let m = c.before.before.before.before in
     let l = m.before.before.loop in
-    sofar-full _ _ _ _ _ _ l.invariant (omega arith) _ (sym c.before.before.mark2.given.1 ∙ m.mark-at.ensures) (omega arith)
+    sofar_full _ _ _ _ _ _ l.invariant (omega arith) _ (sym c.before.before.mark2.given.1 ∙ m.mark-at.ensures) (omega arith)
 
-slice-write-out : tie.Need-slice-write-out invariant-loop decreases-loop
-slice-write-out c = search rules
+slice_write_out : tie.Need-slice-write-out invariant_loop decreases_loop
+slice_write_out c = search rules
 
-add-at-2 : tie.Need-overflow-add-at-2 invariant-loop decreases-loop
-add-at-2 c = search rules
+add_at_2 : tie.Need-overflow-add-at-2 invariant_loop decreases_loop
+add_at_2 c = search rules
 
-add-n : tie.Need-overflow-add-n invariant-loop decreases-loop
-add-n c = search rules
+add_n : tie.Need-overflow-add-n invariant_loop decreases_loop
+add_n c = search rules
 
-loop-less-2 : tie.Need-loop-smaller-2 invariant-loop decreases-loop
-loop-less-2 c = search rules
+loop_less_2 : tie.Need-loop-smaller-2 invariant_loop decreases_loop
+loop_less_2 c = search rules
 
-loop-again-2 : tie.Need-loop-preserved-2 invariant-loop decreases-loop
-loop-again-2 c =
+loop_again_2 : tie.Need-loop-preserved-2 invariant_loop decreases_loop
+loop_again_2 c =
     let m = c.before.before.before.before in
     let l = m.before.before.loop in
-    sofar-byte _ _ _ _ _ _ l.invariant (omega arith) _ (sym c.before.before.mark2.given.1 ∙ m.mark-at.ensures) (omega (arith, sofar-length _ _ _ _ _ _ l.invariant))
+    sofar_byte _ _ _ _ _ _ l.invariant (omega arith) _ (sym c.before.before.mark2.given.1 ∙ m.mark-at.ensures) (omega (arith, sofar_length _ _ _ _ _ _ l.invariant))
 
-enum_told : tie.Need-enum-told invariant-loop decreases-loop
+enum_told : tie.Need-enum-told invariant_loop decreases_loop
 enum_told c = search rules
 
-same-length-2 : tie.Need-same-length-2 invariant-loop decreases-loop
-same-length-2 c = sofar-length _ _ _ _ _ _ c.before.before.before.before.loop.invariant
+same_length_2 : tie.Need-same-length-2 invariant_loop decreases_loop
+same_length_2 c = sofar_length _ _ _ _ _ _ c.before.before.before.before.loop.invariant
 
-returns-2 : tie.Need-returns-2 invariant-loop decreases-loop
-returns-2 c =
+returns_2 : tie.Need-returns-2 invariant_loop decreases_loop
+returns_2 c =
     let m = c.before.before in
     let l = m.before.before.loop in
-    sofar-fault _ _ _ _ _ _ l.invariant (omega arith) (sym c.enum_told.given.1 ∙ m.mark-at.ensures)
+    sofar_fault _ _ _ _ _ _ l.invariant (omega arith) (sym c.enum_told.given.1 ∙ m.mark-at.ensures)
 
-same-length-3 : tie.Need-same-length-3 invariant-loop decreases-loop
-same-length-3 c = sofar-length _ _ _ _ _ _ c.before.loop.invariant
+same_length_3 : tie.Need-same-length-3 invariant_loop decreases_loop
+same_length_3 c = sofar_length _ _ _ _ _ _ c.before.loop.invariant
 
-returns-3 : tie.Need-returns-3 invariant-loop decreases-loop
-returns-3 c = sofar-end _ _ _ _ _ _ c.before.loop.invariant (omega arith)
+returns_3 : tie.Need-returns-3 invariant_loop decreases_loop
+returns_3 c = sofar_end _ _ _ _ _ _ c.before.loop.invariant (omega arith)
 
-pub decode-spec : {M : Type 1} → statement M
-decode-spec =
+pub decode_spec : {M : Type 1} → statement M
+decode_spec =
     tie.close
     (tie.spec
-    invariant-loop
-    decreases-loop
-    opening-requires
-    loop-holds
-    mark-at-requires
-    enum-known-mark
+    invariant_loop
+    decreases_loop
+    opening_requires
+    loop_holds
+    mark_at_requires
+    enum_known_mark
     add_at
-    loop-less
-    loop-again
-    enum-known-mark-2
+    loop_less
+    loop_again
+    enum_known_mark_2
     same_length
     returns
-    slice-write-out
-    add-at-2
-    add-n
-    loop-less-2
-    loop-again-2
+    slice_write_out
+    add_at_2
+    add_n
+    loop_less_2
+    loop_again_2
     enum_told
-    same-length-2
-    returns-2
-    same-length-3
-    returns-3)
+    same_length_2
+    returns_2
+    same_length_3
+    returns_3)

@@ -5,40 +5,40 @@ use Rattle.kinds.proofs.kind_of.Tie as tie
 enum_told : tie.Need-enum-told
 enum_told c = search rules
 
-enum-told-2 : tie.Need-enum-told-2
-enum-told-2 c = search rules
+enum_told_2 : tie.Need-enum-told-2
+enum_told_2 c = search rules
 
-enum-told-3 : tie.Need-enum-told-3
-enum-told-3 c = search rules
+enum_told_3 : tie.Need-enum-told-3
+enum_told_3 c = search rules
 
-enum-told-4 : tie.Need-enum-told-4
-enum-told-4 c = search rules
+enum_told_4 : tie.Need-enum-told-4
+enum_told_4 c = search rules
 
-enum-told-5 : tie.Need-enum-told-5
-enum-told-5 c = search rules
+enum_told_5 : tie.Need-enum-told-5
+enum_told_5 c = search rules
 
-enum-told-6 : tie.Need-enum-told-6
-enum-told-6 c = search rules
+enum_told_6 : tie.Need-enum-told-6
+enum_told_6 c = search rules
 
 returns : tie.Need-returns
 returns c = record { told = rw c.enum_told.given.1 }
 
-returns-2 : tie.Need-returns-2
-returns-2 c = record { told = rw c.enum-told2.given.1 }
+returns_2 : tie.Need-returns-2
+returns_2 c = record { told = rw c.enum-told2.given.1 }
 
-returns-3 : tie.Need-returns-3
-returns-3 c = record { told = rw c.enum-told3.given.1 }
+returns_3 : tie.Need-returns-3
+returns_3 c = record { told = rw c.enum-told3.given.1 }
 
-returns-4 : tie.Need-returns-4
-returns-4 c = record { told = rw c.enum-told4.given.1 }
+returns_4 : tie.Need-returns-4
+returns_4 c = record { told = rw c.enum-told4.given.1 }
 
-returns-5 : tie.Need-returns-5
-returns-5 c = record { told = rw c.enum-told5.given.1 }
+returns_5 : tie.Need-returns-5
+returns_5 c = record { told = rw c.enum-told5.given.1 }
 
-returns-6 : tie.Need-returns-6
-returns-6 c = record { told = rw c.enum-told6.given.1 }
+returns_6 : tie.Need-returns-6
+returns_6 c = record { told = rw c.enum-told6.given.1 }
 
-pub kind-of-spec : {M : Type 1} → statement M
-kind-of-spec =
+pub kind_of_spec : {M : Type 1} → statement M
+kind_of_spec =
     tie.close
-    (tie.spec enum_told enum-told-2 enum-told-3 enum-told-4 enum-told-5 enum-told-6 returns returns-2 returns-3 returns-4 returns-5 returns-6)
+    (tie.spec enum_told enum_told_2 enum_told_3 enum_told_4 enum_told_5 enum_told_6 returns returns_2 returns_3 returns_4 returns_5 returns_6)

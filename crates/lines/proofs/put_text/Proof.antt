@@ -1,26 +1,26 @@
 -- `put_text` asks whether the text fits: if not it leaves all as it was, and else what it writes is the promised piece.
 use borrow.Author.Rules.{rules}
-use Rattle.file_rules.proofs.Joined.{piece-length}
+use Rattle.file_rules.proofs.Joined.{piece_length}
 use Rattle.lines.proofs.Printing.{has_room, printed, unprinted}
 use Rattle.lines.proofs.put_text.Statement.{statement}
 use Rattle.lines.proofs.put_text.Tie as tie
 
-has-room-requires : tie.Need-has-room-requires
-has-room-requires c κs = search rules
+has_room_requires : tie.Need-has-room-requires
+has_room_requires c κs = search rules
 
 returns : tie.Need-returns
 returns c = unprinted _ _ _ c.before.has_room.ensures c.if1.true
 
-put-bytes-requires : tie.Need-put-bytes-requires
-put-bytes-requires c κs = has_room _ _ _ c.before.before.has_room.ensures c.before.if1.false
+put_bytes_requires : tie.Need-put-bytes-requires
+put_bytes_requires c κs = has_room _ _ _ c.before.before.has_room.ensures c.before.if1.false
 
 same_length : tie.Need-same-length
-same_length c = piece-length c.before.before.put-bytes.ensures
+same_length c = piece_length c.before.before.put-bytes.ensures
 
-returns-2 : tie.Need-returns-2
-returns-2 c =
+returns_2 : tie.Need-returns-2
+returns_2 c =
     let test = c.before.before.before.before in
     printed _ _ _ test.before.has_room.ensures test.if1.false c.before.before.put-bytes.ensures
 
-pub put-text-spec : {M : Type 1} → statement M
-put-text-spec = tie.close (tie.spec has-room-requires returns put-bytes-requires same_length returns-2)
+pub put_text_spec : {M : Type 1} → statement M
+put_text_spec = tie.close (tie.spec has_room_requires returns put_bytes_requires same_length returns_2)

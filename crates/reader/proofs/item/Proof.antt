@@ -42,7 +42,7 @@ use denote.Triple.Walked.{says, Stays, stay_none, walk_of, Goes-none, Walks, end
 use denote.Exit.{yes}
 use denote.Triple.Clauses.{ensured, lasts}
 use Rattle.rules.specs.ToldInNumbers.{ToldInNumbers}
-use Rattle.file_rules.specs.Numbers.{itemNumbers}
+use Rattle.file_rules.specs.Numbers.{item_numbers}
 use Rattle.file_rules.specs.File.{item_at}
 use Rattle.reader.specs.declared.Reader.{Reader}
 use Rattle.file_rules.specs.declared.Item.{Item}
@@ -82,7 +82,7 @@ module _ {M : Type 1} {𝓤 : Ura M} (𝓛 : Logic 𝓤) (mem : Memory → SProp
   v = slice_val d.bytes.ref_ptr (length d.bytes.now)
 
   abbrev Found : Item → Type 0
-  Found r = ToldInNumbers itemNumbers (item_at d.bytes.now d.place) r
+  Found r = ToldInNumbers item_numbers (item_at d.bytes.now d.place) r
 
   abbrev Post : Val → SProp 𝓤
   Post = (walk_of 𝓛 item.ended stayed (item.clauses 𝓛 mem run)).post (((κ, tt), (q, tt), tt, (d, tt), (mach ∷ [], tt)), tt)
@@ -150,21 +150,21 @@ module _ {M : Type 1} {𝓤 : Ura M} (𝓛 : Logic 𝓤) (mem : Memory → SProp
 module _ {M : Type 1} {𝓤 : Ura M} (𝓛 : Logic 𝓤) (mem : Memory → SProp 𝓤) (run : Routine → Fun 𝓤) where
   open 𝓛 use {H}
 
-  item-walks : (C : Calls 𝓤 H) (Λ : Loops 𝓤 H) → FmC 𝓤 H 𝓛.laws C → Triple 𝓤 (C #session·item-at) (ItemAt 𝓛 mem run)
+  item_walks : (C : Calls 𝓤 H) (Λ : Loops 𝓤 H) → FmC 𝓤 H 𝓛.laws C → Triple 𝓤 (C #session·item-at) (ItemAt 𝓛 mem run)
       → Walks 𝓛 item.ended stayed (WpFn 𝓤 H C Λ code.function) (item.clauses 𝓛 mem run)
-  item-walks C Λ fm known = walked 𝓛 item.ended stayed (item.clauses 𝓛 mem run) (WpFn 𝓤 H C Λ code.function) (λ κs. (LL.vals (T.the_type (named_lft 1 0 tt κs)) (T'.the_laws (named_lft 1 0 tt κs)), tt)) (λ κs. (LL.tells (T.the_type (named_lft 1 0 tt κs)) (T'.the_laws (named_lft 1 0 tt κs)), tt))
+  item_walks C Λ fm known = walked 𝓛 item.ended stayed (item.clauses 𝓛 mem run) (WpFn 𝓤 H C Λ code.function) (λ κs. (LL.vals (T.the_type (named_lft 1 0 tt κs)) (T'.the_laws (named_lft 1 0 tt κs)), tt)) (λ κs. (LL.tells (T.the_type (named_lft 1 0 tt κs)) (T'.the_laws (named_lft 1 0 tt κs)), tt))
       (λ κs qs bounds a g are. via 𝓤 _ (fst∗ 𝓤 _ (emp 𝓤)) (walk 𝓛 mem run κs.0 qs.0 a.0 C Λ fm known ((LL.lawful (T.the_type (named_lft 1 0 tt κs)) (T'.the_laws (named_lft 1 0 tt κs)) 𝓛).typed a.0 _ are.0).0))
 
-item-meets : {M : Type 1} {𝓤 : Ura M} (𝓛 : Logic 𝓤) (mem : Memory → SProp 𝓤) (run : Routine → Fun 𝓤) (𝓣 : Tables 𝓤 𝓛.H)
+item_meets : {M : Type 1} {𝓤 : Ura M} (𝓛 : Logic 𝓤) (mem : Memory → SProp 𝓤) (run : Routine → Fun 𝓤) (𝓣 : Tables 𝓤 𝓛.H)
     → Triple 𝓤 (𝓣.C #session·item-at) (ItemAt 𝓛 mem run)
     → Meets 𝓛 item.signature (WpFn 𝓤 𝓛.H 𝓣.C 𝓣.Λ code.function) (item.spec 𝓛 mem run)
-item-meets {𝓤 = 𝓤} 𝓛 mem run 𝓣 known = walk_Meets 𝓛 item.ended stayed (Goes-none 𝓛 1 B yes (λ κs x f. refl), tt) (item.clauses 𝓛 mem run) (WpFn 𝓤 𝓛.H 𝓣.C 𝓣.Λ code.function) (WpFn-mono 𝓤 𝓛.H 𝓛.laws 𝓣 code.function)
-    (item-walks 𝓛 mem run 𝓣.C 𝓣.Λ (fm_of 𝓤 𝓛.H 𝓛.laws 𝓣) known)
+item_meets {𝓤 = 𝓤} 𝓛 mem run 𝓣 known = walk_Meets 𝓛 item.ended stayed (Goes-none 𝓛 1 B yes (λ κs x f. refl), tt) (item.clauses 𝓛 mem run) (WpFn 𝓤 𝓛.H 𝓣.C 𝓣.Λ code.function) (WpFn-mono 𝓤 𝓛.H 𝓛.laws 𝓣 code.function)
+    (item_walks 𝓛 mem run 𝓣.C 𝓣.Λ (fm_of 𝓤 𝓛.H 𝓛.laws 𝓣) known)
 
-pub item-spec : {M : Type 1} → stated.statement M
+pub item_spec : {M : Type 1} → stated.statement M
 unfolding code.routine tables_of
-item-spec 𝓤 𝓛 𝓜 𝓡 =
+item_spec 𝓤 𝓛 𝓜 𝓡 =
     entered 𝓤 𝓛.H (triple_of 𝓛 item.signature (item.spec 𝓛 𝓜.mem 𝓡.run))
     (tables 𝓤 𝓛.H 𝓜 𝓡 code.env).C (tables 𝓤 𝓛.H 𝓜 𝓡 code.env).Λ #reader·item code.function (code.unfolded 𝓤 𝓛.H 𝓜 𝓡)
-    (item-meets 𝓛 𝓜.mem 𝓡.run (tables_of 𝓤 𝓛.H 𝓜 (tables 𝓤 𝓛.H 𝓜 𝓡 code.env))
+    (item_meets 𝓛 𝓜.mem 𝓡.run (tables_of 𝓤 𝓛.H 𝓜 (tables 𝓤 𝓛.H 𝓜 𝓡 code.env))
     (cited 𝓤 𝓛.H (ItemAt 𝓛 𝓜.mem 𝓡.run) 𝓜 𝓡 code.env #session·item-at at-def.routine code.calls-session::item-at (at-thm.met 𝓤 𝓛 𝓜 𝓡)))

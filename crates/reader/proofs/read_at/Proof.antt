@@ -38,8 +38,8 @@ use denote.Triple.Walked.{says, Stays, stay_none, stay_none_slice, walk_of, Goes
 use denote.Exit.{yes}
 use denote.Triple.Clauses.{ensured, lasts}
 use Rattle.rules.specs.ToldInNumbers.{ToldInNumbers}
-use Rattle.rules.proofs.Equal.{told-in-numbers}
-use Rattle.file_rules.specs.Numbers.{itemNumbers}
+use Rattle.rules.proofs.Equal.{told_in_numbers}
+use Rattle.file_rules.specs.Numbers.{item_numbers}
 use Rattle.file_rules.specs.File.{item_at}
 use Rattle.reader.specs.Promises.{Opened}
 use Rattle.reader.specs.declared.Reader.{Reader}
@@ -88,7 +88,7 @@ module _ {M : Type 1} {𝓤 : Ura M} (𝓛 : Logic 𝓤) (mem : Memory → SProp
   at = (v ∷ [], (vint w64 n ∷ [], tt))
 
   abbrev Found : Item → Type 0
-  Found t = ToldInNumbers itemNumbers (item_at s.now n) t
+  Found t = ToldInNumbers item_numbers (item_at s.now n) t
 
   -- the struct's type as a local of a body has it
   abbrev αᵉ : NamedLft
@@ -101,14 +101,14 @@ module _ {M : Type 1} {𝓤 : Ura M} (𝓛 : Logic 𝓤) (mem : Memory → SProp
   Own = (ShrSlice (named 0) κ u8).own_val s (v ∷ [])
 
   -- the call of `open`: what it is passed, what it asks, and what is known of its result
-  abbrev to-open : (Open 𝓛 mem run).Ghost
-  to-open = (((κ, tt), (q, tt), tt, (s, (n, tt)), at), tt)
+  abbrev to_open : (Open 𝓛 mem run).Ghost
+  to_open = (((κ, tt), (q, tt), tt, (s, (n, tt)), at), tt)
 
-  goes-open : ent 𝓤 (on_entry 𝓛 rd.signature (κ, tt) (q, tt) (s, (n, tt)) at) (sep 𝓤 ((Open 𝓛 mem run).pre to-open) (sem 𝓛 Own))
-  goes-open =
+  goes_open : ent 𝓤 (on_entry 𝓛 rd.signature (κ, tt) (q, tt) (s, (n, tt)) at) (sep 𝓤 ((Open 𝓛 mem run).pre to_open) (sem 𝓛 Own))
+  goes_open =
       qed 𝓛 ((‵ (flft κ q) ⊛ ‵ ftrue) ∷ ‵ (owns (ShrSlice (named 0) κ u8 ∷ usize ∷ []) (s, (n, tt)) at) ∷ []) ∵
       move ! (1 ∷ []) $ fsplit ! $ use1 𝓛 (‵ Own ⊛ ‵ Own) ((shr_slice_copy 𝓛 (named 0) κ u8).twice s (v ∷ [])) $ split ! $
-      move ! (0 ∷ 2 ∷ []) $ fjoin ! $ move ! (2 ∷ 0 ∷ []) $ use2 𝓛 (raw ((Open 𝓛 mem run).pre to-open)) (qed 𝓛 ((‵ (flft κ q) ⊛ ‵ ftrue) ∷ ‵ (owns (ShrSlice (named 0) κ u8 ∷ usize ∷ []) (s, (n, tt)) at) ∷ []) ∵ join ! $ frame ! $ done !) $ frame ! $ done !
+      move ! (0 ∷ 2 ∷ []) $ fjoin ! $ move ! (2 ∷ 0 ∷ []) $ use2 𝓛 (raw ((Open 𝓛 mem run).pre to_open)) (qed 𝓛 ((‵ (flft κ q) ⊛ ‵ ftrue) ∷ ‵ (owns (ShrSlice (named 0) κ u8 ∷ usize ∷ []) (s, (n, tt)) at) ∷ []) ∵ join ! $ frame ! $ done !) $ frame ! $ done !
 
   open_said : (r : Reader) → ent 𝓤 (ensured 𝓛 opn.ended (opn.clauses 𝓛 mem run) (κ, tt) (s, (n, tt)) tt r) (fact 𝓤 (Opened s n r))
   open_said r = ex_e 𝓤 _ (λ ws. snd∗ 𝓤 (sem 𝓛 (lasts opn.ended (κ, tt) (s, (n, tt)) ws)) (fact 𝓤 (Opened s n r)))
@@ -117,11 +117,11 @@ module _ {M : Type 1} {𝓤 : Ura M} (𝓛 : Logic 𝓤) (mem : Memory → SProp
   abbrev to_item : Reader → Val → (Asked 𝓛 mem run).Ghost
   to_item r u = (((κ, tt), (q, tt), tt, (r, tt), (u ∷ [], tt)), tt)
 
-  goes-item : (r : Reader) (u : Val) → ent 𝓤 (⋆ 𝓛 (‵ ((B (κ, tt)).own_val r (u ∷ [])) ∷ (‵ (flft κ q) ⊛ ‵ ftrue) ∷ [])) ((Asked 𝓛 mem run).pre (to_item r u))
-  goes-item r u = qed 𝓛 (‵ ((B (κ, tt)).own_val r (u ∷ [])) ∷ (‵ (flft κ q) ⊛ ‵ ftrue) ∷ []) ∵ nothing ! $ move ! (1 ∷ 0 ∷ []) $ fjoin ! $ move ! (1 ∷ 0 ∷ []) $ join ! $ frame ! $ done !
+  goes_item : (r : Reader) (u : Val) → ent 𝓤 (⋆ 𝓛 (‵ ((B (κ, tt)).own_val r (u ∷ [])) ∷ (‵ (flft κ q) ⊛ ‵ ftrue) ∷ [])) ((Asked 𝓛 mem run).pre (to_item r u))
+  goes_item r u = qed 𝓛 (‵ ((B (κ, tt)).own_val r (u ∷ [])) ∷ (‵ (flft κ q) ⊛ ‵ ftrue) ∷ []) ∵ nothing ! $ move ! (1 ∷ 0 ∷ []) $ fjoin ! $ move ! (1 ∷ 0 ∷ []) $ join ! $ frame ! $ done !
 
-  item-said : (r : Reader) (t : Item) → ent 𝓤 (ensured 𝓛 item.ended (item.clauses 𝓛 mem run) (κ, tt) (r, tt) tt t) (fact 𝓤 (ToldInNumbers itemNumbers (item_at r.bytes.now r.place) t))
-  item-said r t = ex_e 𝓤 _ (λ ws. snd∗ 𝓤 (sem 𝓛 (lasts item.ended (κ, tt) (r, tt) ws)) (fact 𝓤 (ToldInNumbers itemNumbers (item_at r.bytes.now r.place) t)))
+  item_said : (r : Reader) (t : Item) → ent 𝓤 (ensured 𝓛 item.ended (item.clauses 𝓛 mem run) (κ, tt) (r, tt) tt t) (fact 𝓤 (ToldInNumbers item_numbers (item_at r.bytes.now r.place) t))
+  item_said r t = ex_e 𝓤 _ (λ ws. snd∗ 𝓤 (sem 𝓛 (lasts item.ended (κ, tt) (r, tt) ws)) (fact 𝓤 (ToldInNumbers item_numbers (item_at r.bytes.now r.place) t)))
 
   exits : (t : Item) (u : Val) → Found t → ent 𝓤 (⋆ 𝓛 (‵ ((S.the_row).own_val t (u ∷ [])) ∷ (‵ (flft κ q) ⊛ ‵ ftrue) ∷ ‵ Own ∷ [])) (Post u)
   exits t u e =
@@ -134,40 +134,40 @@ module _ {M : Type 1} {𝓤 : Ura M} (𝓛 : Logic 𝓤) (mem : Memory → SProp
     walk p =
         qed 𝓛 (raw (on_entry 𝓛 rd.signature (κ, tt) (q, tt) (s, (n, tt)) at) ∷ []) ∵ enter ! C Λ code.function (v ∷ vint w64 n ∷ []) _ $
         alloc1 ! (λ l₀. alloc1 ! (λ l₁. alloc1 ! (λ l₂. alloc1 ! (λ l₃. alloc0 ! $ params1 ! $ pass1 ! (init ! 4 refl ((shr_slice_Lawful 𝓛 (named 0) κ u8).typed s (v ∷ []) p).0) $ pass1 ! (init ! 2 refl (tt, record { fits = ok })) $ pass0 ! $
-        move ! (8 ∷ []) $ use1 𝓛 (raw ((Open 𝓛 mem run).pre to-open) ⊛ ‵ Own) goes-open $ split ! $
-        calls_at ! fm (Open 𝓛 mem run) known-open to-open (and_then ! (load ! (from ! (stop !)) (look ! 6 refl)) (and_then ! (load ! (from ! (stop !)) (look ! 4 refl)) (no_more !))) (λ u.
+        move ! (8 ∷ []) $ use1 𝓛 (raw ((Open 𝓛 mem run).pre to_open) ⊛ ‵ Own) goes_open $ split ! $
+        calls_at ! fm (Open 𝓛 mem run) known-open to_open (and_then ! (load ! (from ! (stop !)) (look ! 6 refl)) (and_then ! (load ! (from ! (stop !)) (look ! 4 refl)) (no_more !))) (λ u.
         use1 𝓛 (later (some (λ (r : Reader). ((‵ (flft κ q) ⊛ ‵ ftrue) ⊛ ‵ ((B (κ, tt)).own_val r (u ∷ []))) ⊛ raw (ensured 𝓛 opn.ended (opn.clauses 𝓛 mem run) (κ, tt) (s, (n, tt)) tt r)))) (id⊢ 𝓤 _) $ await ! tt $ pick ! (λ r.
         split ! $ move ! (1 ∷ []) $ use1 𝓛 (raw (fact 𝓤 (Opened s n r))) (open_said r) $ heard ! (Opened s n r) (λ e. split ! $ move ! (1 ∷ []) $
         -- [what the struct owns; the token; what s owns; room for _2; …; _1; …; room for _0; …]
         peeks ! (B (κ, tt)) (Is (B (κ, tt))) (shows 𝓛 (B (κ, tt))) r (u ∷ []) (λ is.
         land ! (from ! (stop !)) (init ! 3 refl ((LL.lawful (T.the_type αᵉ) (T'.the_laws αᵉ) 𝓛).typed r _ is).0) $
-        use2 𝓛 (raw ((Asked 𝓛 mem run).pre (to_item r u))) (goes-item r u) $
+        use2 𝓛 (raw ((Asked 𝓛 mem run).pre (to_item r u))) (goes_item r u) $
         calls_at ! fm (Asked 𝓛 mem run) known-item (to_item r u) (and_then ! (load ! (from ! (stop !)) (look ! 2 refl)) (no_more !)) (λ u'.
         use1 𝓛 (later (some (λ (t : Item). ((‵ (flft κ q) ⊛ ‵ ftrue) ⊛ ‵ ((S.the_row).own_val t (u' ∷ []))) ⊛ raw (ensured 𝓛 item.ended (item.clauses 𝓛 mem run) (κ, tt) (r, tt) tt t)))) (id⊢ 𝓤 _) $ await ! tt $ pick ! (λ t.
-        split ! $ move ! (1 ∷ []) $ use1 𝓛 (raw (fact 𝓤 (ToldInNumbers itemNumbers (item_at r.bytes.now r.place) t))) (item-said r t) $ heard ! (ToldInNumbers itemNumbers (item_at r.bytes.now r.place) t) (λ e'. split ! $ move ! (1 ∷ []) $
+        split ! $ move ! (1 ∷ []) $ use1 𝓛 (raw (fact 𝓤 (ToldInNumbers item_numbers (item_at r.bytes.now r.place) t))) (item_said r t) $ heard ! (ToldInNumbers item_numbers (item_at r.bytes.now r.place) t) (λ e'. split ! $ move ! (1 ∷ []) $
         -- [the result; the token; what s owns; _2; …; _1; …; room for _0; …]
         peeks ! S.the_row (Is S.the_row) (shows 𝓛 S.the_row) t (u' ∷ []) (λ is'.
         land ! (from ! (stop !)) (init ! 9 refl ((EL.lawful S.the_type S'.the_laws 𝓛 tt).typed t _ is').0) $
         returns ! (look ! 9 refl) $ forget ! 3 refl $ forget ! 5 refl $ forget ! 7 refl $ forget ! 9 refl $ move ! (9 ∷ 10 ∷ []) $ free1 ! $ move ! (7 ∷ 8 ∷ []) $ free1 ! $ move ! (5 ∷ 6 ∷ []) $ free1 ! $ move ! (3 ∷ 4 ∷ []) $ free1 ! $ free0 ! $
-        by ! (exits t u' (told-in-numbers itemNumbers (e'.told ∙ (ap (λ (x : Bor (List ℕ)). item_at x.now r.place) e.bytes ∙ ap (item_at s.now) e.place))))))))))))))))
+        by ! (exits t u' (told_in_numbers item_numbers (e'.told ∙ (ap (λ (x : Bor (List ℕ)). item_at x.now r.place) e.bytes ∙ ap (item_at s.now) e.place))))))))))))))))
 
 module _ {M : Type 1} {𝓤 : Ura M} (𝓛 : Logic 𝓤) (mem : Memory → SProp 𝓤) (run : Routine → Fun 𝓤) where
   open 𝓛 use {H}
 
-  read-walks : (C : Calls 𝓤 H) (Λ : Loops 𝓤 H) → FmC 𝓤 H 𝓛.laws C → Triple 𝓤 (C #reader·open) (Open 𝓛 mem run) → Triple 𝓤 (C #reader·item) (Asked 𝓛 mem run)
+  read_walks : (C : Calls 𝓤 H) (Λ : Loops 𝓤 H) → FmC 𝓤 H 𝓛.laws C → Triple 𝓤 (C #reader·open) (Open 𝓛 mem run) → Triple 𝓤 (C #reader·item) (Asked 𝓛 mem run)
       → Walks 𝓛 rd.ended stayed (WpFn 𝓤 H C Λ code.function) (rd.clauses 𝓛 mem run)
-  read-walks C Λ fm known-open known-item = walked 𝓛 rd.ended stayed (rd.clauses 𝓛 mem run) (WpFn 𝓤 H C Λ code.function) (λ κs. (shr_slice_vals, (uint_vals w64, tt))) (λ κs. (shr_slice_Tells (named 0) κs.0 u8, (uint_Tells w64, tt)))
+  read_walks C Λ fm known-open known-item = walked 𝓛 rd.ended stayed (rd.clauses 𝓛 mem run) (WpFn 𝓤 H C Λ code.function) (λ κs. (shr_slice_vals, (uint_vals w64, tt))) (λ κs. (shr_slice_Tells (named 0) κs.0 u8, (uint_Tells w64, tt)))
       (λ κs qs bounds a g are. via 𝓤 _ (fst∗ 𝓤 _ (emp 𝓤)) (walk 𝓛 mem run κs.0 qs.0 a.0 a.1.0 are.1.0.1 C Λ fm known-open known-item are.0))
 
 read_meets : {M : Type 1} {𝓤 : Ura M} (𝓛 : Logic 𝓤) (mem : Memory → SProp 𝓤) (run : Routine → Fun 𝓤) (𝓣 : Tables 𝓤 𝓛.H)
     → Triple 𝓤 (𝓣.C #reader·open) (Open 𝓛 mem run) → Triple 𝓤 (𝓣.C #reader·item) (Asked 𝓛 mem run)
     → Meets 𝓛 rd.signature (WpFn 𝓤 𝓛.H 𝓣.C 𝓣.Λ code.function) (rd.spec 𝓛 mem run)
 read_meets {𝓤 = 𝓤} 𝓛 mem run 𝓣 known-open known-item = walk_Meets 𝓛 rd.ended stayed (Goes-none_slice 𝓛 1 (0 ∷ []) tt (plain (λ _. u8)) yes, (Goes-none 𝓛 1 (λ _. usize) yes (λ κs x f. refl), tt)) (rd.clauses 𝓛 mem run) (WpFn 𝓤 𝓛.H 𝓣.C 𝓣.Λ code.function) (WpFn-mono 𝓤 𝓛.H 𝓛.laws 𝓣 code.function)
-    (read-walks 𝓛 mem run 𝓣.C 𝓣.Λ (fm_of 𝓤 𝓛.H 𝓛.laws 𝓣) known-open known-item)
+    (read_walks 𝓛 mem run 𝓣.C 𝓣.Λ (fm_of 𝓤 𝓛.H 𝓛.laws 𝓣) known-open known-item)
 
-pub read-at-spec : {M : Type 1} → stated.statement M
+pub read_at_spec : {M : Type 1} → stated.statement M
 unfolding code.routine tables_of
-read-at-spec 𝓤 𝓛 𝓜 𝓡 =
+read_at_spec 𝓤 𝓛 𝓜 𝓡 =
     entered 𝓤 𝓛.H (triple_of 𝓛 rd.signature (rd.spec 𝓛 𝓜.mem 𝓡.run))
     (tables 𝓤 𝓛.H 𝓜 𝓡 code.env).C (tables 𝓤 𝓛.H 𝓜 𝓡 code.env).Λ #reader·read-at code.function (code.unfolded 𝓤 𝓛.H 𝓜 𝓡)
     (read_meets 𝓛 𝓜.mem 𝓡.run (tables_of 𝓤 𝓛.H 𝓜 (tables 𝓤 𝓛.H 𝓜 𝓡 code.env))

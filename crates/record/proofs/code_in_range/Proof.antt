@@ -5,5 +5,5 @@ use Rattle.record.proofs.code_in_range.Tie as tie
 returns : tie.Need-returns
 returns c = record { told = refl }
 
-pub code-in-range-spec : {M : Type 1} → statement M
-code-in-range-spec = tie.close (tie.spec returns)
+pub code_in_range_spec : {M : Type 1} → statement M
+code_in_range_spec = tie.close (tie.spec returns)

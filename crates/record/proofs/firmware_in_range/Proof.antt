@@ -5,5 +5,5 @@ use Rattle.record.proofs.firmware_in_range.Tie as tie
 returns : tie.Need-returns
 returns c = record { told = refl }
 
-pub firmware-in-range-spec : {M : Type 1} → statement M
-firmware-in-range-spec = tie.close (tie.spec returns)
+pub firmware_in_range_spec : {M : Type 1} → statement M
+firmware_in_range_spec = tie.close (tie.spec returns)

@@ -7,13 +7,13 @@ returns : tie.Need-returns
 unfolding channels
 returns c = record { told = rw (eq-eqb _ _ c.if1.true) }
 
-returns-2 : tie.Need-returns-2
+returns_2 : tie.Need-returns-2
 unfolding channels
-returns-2 c = record { told = rw (ne_eqb _ _ c.before.if1.false, eq-eqb _ _ c.if2.true) }
+returns_2 c = record { told = rw (ne_eqb _ _ c.before.if1.false, eq-eqb _ _ c.if2.true) }
 
-returns-3 : tie.Need-returns-3
+returns_3 : tie.Need-returns-3
 unfolding channels
-returns-3 c = record { told = rw (ne_eqb _ _ c.before.if1.false, ne_eqb _ _ c.if2.false) }
+returns_3 c = record { told = rw (ne_eqb _ _ c.before.if1.false, ne_eqb _ _ c.if2.false) }
 
-pub mask-limit-spec : {M : Type 1} → statement M
-mask-limit-spec = tie.close (tie.spec returns returns-2 returns-3)
+pub mask_limit_spec : {M : Type 1} → statement M
+mask_limit_spec = tie.close (tie.spec returns returns_2 returns_3)

@@ -7,5 +7,5 @@ returns : tie.Need-returns
 unfolding unpowered
 returns c = record { told = refl }
 
-pub unpowered-spec : {M : Type 1} → statement M
-unpowered-spec = tie.close (tie.spec returns)
+pub unpowered_spec : {M : Type 1} → statement M
+unpowered_spec = tie.close (tie.spec returns)

@@ -8,5 +8,5 @@ use Rattle.rehearse.proofs.output_room.Tie as tie
 returns : tie.Need-returns
 returns c = sym (length-replicate {0} {A = ℕ} 1441952 0)
 
-pub output-room-spec : {M : Type 1} → statement M
-output-room-spec = tie.close (tie.spec returns)
+pub output_room_spec : {M : Type 1} → statement M
+output_room_spec = tie.close (tie.spec returns)

@@ -1,10 +1,10 @@
 -- What initialise and power-up leave: all eight readings for every kit, the levels, the stored values, the request.
 use Rattle.std.specs.Prelude.{ℕ, ◌+◌, ◌*◌, ◌≡◌, true, false, List, [], ◌∷◌, replicate}
-use Rattle.rules.specs.Types.{Settings, Options, Board, powerUp, write}
+use Rattle.rules.specs.Types.{Settings, Options, Board, power_up, write}
 use Rattle.rules.specs.Bits.{bit, flag}
 use Rattle.rules.specs.Record.{State, stored, sound, unpowered}
-use Rattle.rules.specs.Parts.{noBurst}
-use Rattle.rules.specs.Registers.{readAt}
+use Rattle.rules.specs.Parts.{no_burst}
+use Rattle.rules.specs.Registers.{read_at}
 use Rattle.rules.specs.Refusals.{refusal}
 use Rattle.rules.specs.Step.{step}
 
@@ -12,16 +12,16 @@ use Rattle.rules.specs.Step.{step}
 -- buffer, all 20 levels 8000h, cursor 0, no burst, settling, calibration or "calibrated"."
 -- A state s that is fresh, with the options o, the fitted code d and the memory m.
 pub record Fresh (o : Options) (d : ℕ) (m : List ℕ) (s : State) : Type 0 where
-  pub control : readAt s.board 0x00 ≡ 0x00000810
-  pub six : o.kit ≡ 0 → readAt s.board 0x04 ≡ 0x0000003F
-  pub twelve : o.kit ≡ 1 → readAt s.board 0x04 ≡ 0x00000FFF
-  pub twenty : o.kit ≡ 2 → readAt s.board 0x04 ≡ 0x000FFFFF
-  pub rate : readAt s.board 0x08 ≡ 0x00000064
-  pub buffer : readAt s.board 0x0C ≡ 0x0000340F
-  pub assembly : readAt s.board 0x10 ≡ o.firmware + 0x10000 * o.range + 0x40000 * o.filter + 0x100000 * o.kit
-  pub autocal : readAt s.board 0x14 ≡ 0
-  pub outputData : readAt s.board 0x18 ≡ 0
-  pub adjust : readAt s.board 0x1C ≡ 0
+  pub control : read_at s.board 0x00 ≡ 0x00000810
+  pub six : o.kit ≡ 0 → read_at s.board 0x04 ≡ 0x0000003F
+  pub twelve : o.kit ≡ 1 → read_at s.board 0x04 ≡ 0x00000FFF
+  pub twenty : o.kit ≡ 2 → read_at s.board 0x04 ≡ 0x000FFFFF
+  pub rate : read_at s.board 0x08 ≡ 0x00000064
+  pub buffer : read_at s.board 0x0C ≡ 0x0000340F
+  pub assembly : read_at s.board 0x10 ≡ o.firmware + 0x10000 * o.range + 0x40000 * o.filter + 0x100000 * o.kit
+  pub autocal : read_at s.board 0x14 ≡ 0
+  pub output_data : read_at s.board 0x18 ≡ 0
+  pub adjust : read_at s.board 0x1C ≡ 0
   -- what no register shows
   pub powered : s.board.core.powered ≡ true
   pub options : s.board.core.options ≡ o
@@ -29,7 +29,7 @@ pub record Fresh (o : Options) (d : ℕ) (m : List ℕ) (s : State) : Type 0 whe
   pub divisor : s.board.core.clock.divisor ≡ 0x64
   pub levels : s.board.core.outputs.levels ≡ replicate 20 0x8000
   pub cursor : s.board.core.outputs.cursor ≡ 0
-  pub burst : s.board.core.burst ≡ noBurst
+  pub burst : s.board.core.burst ≡ no_burst
   pub settling : s.board.core.clock.settling ≡ false
   pub calibrated : s.board.core.calibration.calibrated ≡ false
   -- 01: "Emptying sets both numbers to 0 and writes nothing."
@@ -70,12 +70,12 @@ Unpowered-zero = Zero unpowered
 abbrev pub Power-up-fresh : Type 0
 Power-up-fresh =
     (s : State) (x : Settings)
-    → refusal s (powerUp x) ≡ 0
+    → refusal s (power_up x) ≡ 0
     → Fresh
     (record { range = x.range; filter = x.filter; kit = x.kit; firmware = x.firmware })
     x.fitted
     s.memory
-    (step s (powerUp x)).state
+    (step s (power_up x)).state
 
 -- 01: "A BCR write with D15 set initialises and ignores its other bits."
 abbrev pub Initialise-fresh : Type 0

@@ -1,8 +1,8 @@
 -- The interrupt request after an event, by the selected condition before and after it.
 use Rattle.std.specs.Prelude.{ℕ, ◌*◌, ◌≤◌, ◌<◌, ◌≡◌, ◌≢◌, ◌↔◌, Bool, true, false, [], length}
-use Rattle.rules.specs.Types.{Settings, Event, powerUp, write}
+use Rattle.rules.specs.Types.{Settings, Event, power_up, write}
 use Rattle.rules.specs.Bits.{bit}
-use Rattle.rules.specs.Record.{State, stored, activeSize}
+use Rattle.rules.specs.Record.{State, stored, active_size}
 use Rattle.rules.specs.Interrupt.{condition}
 use Rattle.rules.specs.Refusals.{refusal}
 use Rattle.rules.specs.Step.{step}
@@ -17,14 +17,14 @@ selected s = s.board.core.control.selection
 pub data Condition (s : State) : Type 0 where
   calibrated : selected s ≡ 1 → s.board.core.calibration.calibrated ≡ true → Condition s
   empty : selected s ≡ 2 → stored s ≡ [] → Condition s
-  low : selected s ≡ 3 → 4 * length (stored s) < activeSize s.board.size → Condition s
-  high : selected s ≡ 4 → 3 * activeSize s.board.size ≤ 4 * length (stored s) → Condition s
+  low : selected s ≡ 3 → 4 * length (stored s) < active_size s.board.size → Condition s
+  high : selected s ≡ 4 → 3 * active_size s.board.size ≤ 4 * length (stored s) → Condition s
   burst : selected s ≡ 5 → s.board.core.control.bursts ≡ true → s.board.core.burst.running ≡ false → Condition s
-  loadReady : selected s ≡ 6 → ¬ Closed s.board.core → Condition s
-  notLoadReady : selected s ≡ 7 → Closed s.board.core → Condition s
+  load_ready : selected s ≡ 6 → ¬ Closed s.board.core → Condition s
+  not_load_ready : selected s ≡ 7 → Closed s.board.core → Condition s
 
 pub data Initialises : Event → Type 0 where
-  up : {x : Settings} → Initialises (powerUp x)
+  up : {x : Settings} → Initialises (power_up x)
   set : {v : ℕ} → bit 15 v ≡ true → Initialises (write 0x00 v)
 
 -- a BCR write with D11 clear

@@ -2,12 +2,12 @@
 use Rattle.std.specs.Prelude.{ℕ, ◌+◌, ◌*◌, ◌%◌, ◌^◌, ◌≤◌, ◌<◌, ◌≡◌, ◌⊎◌, ◌↔◌, true, false}
 use Rattle.rules.specs.Types.{Board}
 use Rattle.rules.specs.Bits.{bit}
-use Rattle.rules.specs.Record.{activeSize}
-use Rattle.rules.specs.Registers.{readAt}
+use Rattle.rules.specs.Record.{active_size}
+use Rattle.rules.specs.Registers.{read_at}
 use Rattle.rules.specs.Laws.Closed.{Closed}
 
 abbrev pub control : Board → ℕ
-control b = readAt b 0x00
+control b = read_at b 0x00
 
 pub record ControlRead (b : Board) : Type 0 where
   pub d00 : bit 0 (control b) ≡ b.core.control.bursts
@@ -33,7 +33,7 @@ pub record ControlRead (b : Board) : Type 0 where
   pub d16 : control b < 2 ^ 16
 
 abbrev pub buffer : Board → ℕ
-buffer b = readAt b 0x0C
+buffer b = read_at b 0x0C
 
 pub record BufferRead (b : Board) : Type 0 where
   pub d00 : bit 0 (buffer b) ≡ bit 0 b.size.code
@@ -55,9 +55,9 @@ pub record BufferRead (b : Board) : Type 0 where
   -- "empty at count 0; low quarter at 4·count < size; .. full at count ≥ size"; 02, 2026-06: "high quarter when 4·count is at least
   -- 3·size"
   pub d12 : (bit 12 (buffer b) ≡ true) ↔ (b.ring.count ≡ 0)
-  pub d13 : (bit 13 (buffer b) ≡ true) ↔ (4 * b.ring.count < activeSize b.size)
-  pub d14 : (bit 14 (buffer b) ≡ true) ↔ (3 * activeSize b.size ≤ 4 * b.ring.count)
-  pub d15 : (bit 15 (buffer b) ≡ true) ↔ (activeSize b.size ≤ b.ring.count)
+  pub d13 : (bit 13 (buffer b) ≡ true) ↔ (4 * b.ring.count < active_size b.size)
+  pub d14 : (bit 14 (buffer b) ≡ true) ↔ (3 * active_size b.size ≤ 4 * b.ring.count)
+  pub d15 : (bit 15 (buffer b) ≡ true) ↔ (active_size b.size ≤ b.ring.count)
   pub d16 : bit 16 (buffer b) ≡ b.core.lost.full
   pub d17 : bit 17 (buffer b) ≡ b.core.lost.closed
   -- and all above reads 0
@@ -65,19 +65,19 @@ pub record BufferRead (b : Board) : Type 0 where
 
 -- the registers that are fields alone; each field reads no more bits than it has
 pub record FieldsRead (b : Board) : Type 0 where
-  pub mask : readAt b 0x04 ≡ b.core.outputs.mask % 2 ^ 20
-  pub rate : readAt b 0x08 ≡ b.core.clock.divisor % 2 ^ 16
+  pub mask : read_at b 0x04 ≡ b.core.outputs.mask % 2 ^ 20
+  pub rate : read_at b 0x08 ≡ b.core.clock.divisor % 2 ^ 16
   -- "10h is firmware in D11..0, range D17..16, filter D19..18, kit D21..20"
-  pub assembly : readAt b 0x10
+  pub assembly : read_at b 0x10
       ≡ b.core.options.firmware % 2 ^ 12
       + 2 ^ 16 * (b.core.options.range % 4)
       + 2 ^ 18 * (b.core.options.filter % 4)
       + 2 ^ 20 * (b.core.options.kit % 4)
   -- "18h reads 0; 14h reads 0"
-  pub autocal : readAt b 0x14 ≡ 0
-  pub outputData : readAt b 0x18 ≡ 0
-  pub adjust : b.core.clock.alt ≡ false → readAt b 0x1C ≡ b.core.clock.nclk % 2 ^ 9
-  pub alternate : b.core.clock.alt ≡ true → readAt b 0x1C ≡ b.core.clock.nclk % 2 ^ 9 + 2 ^ 9
+  pub autocal : read_at b 0x14 ≡ 0
+  pub output_data : read_at b 0x18 ≡ 0
+  pub adjust : b.core.clock.alt ≡ false → read_at b 0x1C ≡ b.core.clock.nclk % 2 ^ 9
+  pub alternate : b.core.clock.alt ≡ true → read_at b 0x1C ≡ b.core.clock.nclk % 2 ^ 9 + 2 ^ 9
 
 abbrev pub Control-read : Type 0
 Control-read = (b : Board) → ControlRead b

@@ -1,9 +1,9 @@
 -- Events that change nothing: the refused, the reads, and the clocks and triggers that are not accepted.
 use Rattle.std.specs.Prelude.{ℕ, ◌≡◌, ◌≢◌, ◌⊎◌, true, false, [], ◌∷◌}
-use Rattle.rules.specs.Types.{Board, Event, powerUp, write, read, signal, Signal, tick, outside, trigger, passed, failed, settled}
+use Rattle.rules.specs.Types.{Board, Event, power_up, write, read, signal, Signal, tick, outside, trigger, passed, failed, settled}
 use Rattle.rules.specs.Record.{State}
 use Rattle.rules.specs.Bits.{bit}
-use Rattle.rules.specs.Registers.{readAt}
+use Rattle.rules.specs.Registers.{read_at}
 use Rattle.rules.specs.Refusals.{refusal}
 use Rattle.rules.specs.Step.{Outcome, step}
 use Rattle.rules.specs.Laws.Stays.{power, options, control, mode, calibration, clock, load, lost, mask, cursor, levels, AllStay}
@@ -72,7 +72,7 @@ Unaccepted-nothing =
 
 -- 01: "register value (0 unless a read)"
 abbrev pub IsRead : Event → Type 0
-IsRead (powerUp x) = ⊥
+IsRead (power_up x) = ⊥
 IsRead (write a v) = ⊥
 IsRead (read a) = Unit {0}
 IsRead (signal x) = ⊥
@@ -85,13 +85,13 @@ abbrev pub Read-nothing : Type 0
 Read-nothing =
     (s : State) (o : ℕ)
     → refusal s (read o) ≡ 0
-    → ((step s (read o)).answer.register ≡ readAt s.board o) × ((step s (read o)).state ≡ s)
+    → ((step s (read o)).answer.register ≡ read_at s.board o) × ((step s (read o)).state ≡ s)
 
 -- An accepted trigger starts a burst that software did not start (D1 and D2 read 0), and does nothing else but to the request.
 pub record TriggerStarted (s s' : State) : Type 0 where
   pub running : s'.board.core.burst.running ≡ true
-  pub d1 : bit 1 (readAt s'.board 0x00) ≡ false
-  pub d2 : bit 2 (readAt s'.board 0x00) ≡ false
+  pub d1 : bit 1 (read_at s'.board 0x00) ≡ false
+  pub d2 : bit 2 (read_at s'.board 0x00) ≡ false
   pub stays : AllStay s.board.core s'.board.core
       (power ∷ options ∷ control ∷ mode ∷ calibration ∷ clock ∷ load ∷ lost ∷ mask ∷ cursor ∷ levels ∷ [])
   pub room : SameRoom s s'

@@ -17,8 +17,8 @@ beyond k l = rw (le-ltb k codes l)
 returns : tie.Need-returns
 returns c = below c.before.args.k (omega (arith, c.if1.true))
 
-returns-2 : tie.Need-returns-2
-returns-2 c = beyond c.before.args.k (omega (arith, c.if1.false))
+returns_2 : tie.Need-returns-2
+returns_2 c = beyond c.before.args.k (omega (arith, c.if1.false))
 
-pub answer-of-spec : {M : Type 1} → statement M
-answer-of-spec = tie.close (tie.spec returns returns-2)
+pub answer_of_spec : {M : Type 1} → statement M
+answer_of_spec = tie.close (tie.spec returns returns_2)

@@ -5,5 +5,5 @@ use Rattle.status.proofs.clock_ready.Tie as tie
 returns : tie.Need-returns
 returns c = record { told = refl }
 
-pub clock-ready-spec : {M : Type 1} → statement M
-clock-ready-spec = tie.close (tie.spec returns)
+pub clock_ready_spec : {M : Type 1} → statement M
+clock_ready_spec = tie.close (tie.spec returns)

@@ -5,5 +5,5 @@ use Rattle.status.proofs.closed.Tie as tie
 returns : tie.Need-returns
 returns c = record { told = refl }
 
-pub closed-spec : {M : Type 1} → statement M
-closed-spec = tie.close (tie.spec returns)
+pub closed_spec : {M : Type 1} → statement M
+closed_spec = tie.close (tie.spec returns)

@@ -6,32 +6,32 @@ use Rattle.status.proofs.initialises.Tie as tie
 enum_told : tie.Need-enum-told
 enum_told c = search rules
 
-enum-known-e : tie.Need-enum-known-e
-enum-known-e c = search rules
+enum_known_e : tie.Need-enum-known-e
+enum_known_e c = search rules
 
-enum-told-2 : tie.Need-enum-told-2
-enum-told-2 c = search rules
+enum_told_2 : tie.Need-enum-told-2
+enum_told_2 c = search rules
 
-enum-told-3 : tie.Need-enum-told-3
-enum-told-3 c = search rules
+enum_told_3 : tie.Need-enum-told-3
+enum_told_3 c = search rules
 
 returns : tie.Need-returns
 unfolding initialises
 returns c = record { told = cc }
 
-returns-2 : tie.Need-returns-2
+returns_2 : tie.Need-returns-2
 unfolding initialises
-returns-2 c = record { told = rw c.before.e.given.1 }
+returns_2 c = record { told = rw c.before.e.given.1 }
 
-returns-3 : tie.Need-returns-3
+returns_3 : tie.Need-returns-3
 unfolding initialises
-returns-3 c = record { told = cc }
+returns_3 c = record { told = cc }
 
-returns-4 : tie.Need-returns-4
+returns_4 : tie.Need-returns-4
 unfolding initialises
-returns-4 c = record { told = cc }
+returns_4 c = record { told = cc }
 
-pub initialises-spec : {M : Type 1} → statement M
-initialises-spec =
+pub initialises_spec : {M : Type 1} → statement M
+initialises_spec =
     tie.close
-    (tie.spec enum_told enum-known-e enum-told-2 enum-told-3 returns returns-2 returns-3 returns-4)
+    (tie.spec enum_told enum_known_e enum_told_2 enum_told_3 returns returns_2 returns_3 returns_4)

@@ -5,5 +5,5 @@ use Rattle.status.proofs.tick_accepted.Tie as tie
 returns : tie.Need-returns
 returns c = record { told = refl }
 
-pub tick-accepted-spec : {M : Type 1} → statement M
-tick-accepted-spec = tie.close (tie.spec returns)
+pub tick_accepted_spec : {M : Type 1} → statement M
+tick_accepted_spec = tie.close (tie.spec returns)

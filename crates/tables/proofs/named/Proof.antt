@@ -4,111 +4,111 @@ use borrow.Author.Rules.{rules}
 use Rattle.tables.proofs.named.Statement.{statement}
 use Rattle.tables.proofs.named.Tie as tie
 
-place-of-requires : tie.Need-place-of-requires
-place-of-requires c κs = search rules
+place_of_requires : tie.Need-place-of-requires
+place_of_requires c κs = search rules
 
-slice-aggregate-write-all : tie.Need-slice-aggregate-write-all
-slice-aggregate-write-all c = sym (length-take-le _ _ c.before.place_of.ensures.1)
+slice_aggregate_write_all : tie.Need-slice-aggregate-write-all
+slice_aggregate_write_all c = sym (length-take-le _ _ c.before.place_of.ensures.1)
 
-write-all-requires : tie.Need-write-all-requires
-write-all-requires c κs = search rules
+write_all_requires : tie.Need-write-all-requires
+write_all_requires c κs = search rules
 
-slice-aggregate-write-all-2 : tie.Need-slice-aggregate-write-all-2
-slice-aggregate-write-all-2 c = search rules
+slice_aggregate_write_all_2 : tie.Need-slice-aggregate-write-all-2
+slice_aggregate_write_all_2 c = search rules
 
-write-all-requires-2 : tie.Need-write-all-requires-2
-write-all-requires-2 c κs = search rules
+write_all_requires_2 : tie.Need-write-all-requires-2
+write_all_requires_2 c κs = search rules
 
-sub-decode : tie.Need-overflow-sub-decode
-sub-decode c = search rules
+sub_decode : tie.Need-overflow-sub-decode
+sub_decode c = search rules
 
-part-decode-start : tie.Need-slice-bounds-decode-start
-part-decode-start c = search rules
+part_decode_start : tie.Need-slice-bounds-decode-start
+part_decode_start c = search rules
 
-part-decode-end : tie.Need-slice-bounds-decode-end
-part-decode-end c = search rules
+part_decode_end : tie.Need-slice-bounds-decode-end
+part_decode_end c = search rules
 
-slice-aggregate-decode : tie.Need-slice-aggregate-decode
-slice-aggregate-decode c = search rules
+slice_aggregate_decode : tie.Need-slice-aggregate-decode
+slice_aggregate_decode c = search rules
 
-decode-requires : tie.Need-decode-requires
-decode-requires c κs = search rules
+decode_requires : tie.Need-decode-requires
+decode_requires c κs = search rules
 
-enum-known-n : tie.Need-enum-known-n
-enum-known-n c = search rules
+enum_known_n : tie.Need-enum-known-n
+enum_known_n c = search rules
 
-slice-aggregate-within : tie.Need-slice-aggregate-within
-slice-aggregate-within c = search rules
+slice_aggregate_within : tie.Need-slice-aggregate-within
+slice_aggregate_within c = search rules
 
-within-requires : tie.Need-within-requires
-within-requires c κs = search rules
+within_requires : tie.Need-within-requires
+within_requires c κs = search rules
 
-asks-size-requires : tie.Need-asks-size-requires
-asks-size-requires c κs = search rules
+asks_size_requires : tie.Need-asks-size-requires
+asks_size_requires c κs = search rules
 
-array-share-prefix-session : tie.Need-array-share-prefix-session
-array-share-prefix-session c = search rules
+array_share_prefix_session : tie.Need-array-share-prefix-session
+array_share_prefix_session c = search rules
 
-slice-aggregate-tell : tie.Need-slice-aggregate-tell
-slice-aggregate-tell c = search rules
+slice_aggregate_tell : tie.Need-slice-aggregate-tell
+slice_aggregate_tell c = search rules
 
-tell-requires : tie.Need-tell-requires
-tell-requires c κs = search rules
+tell_requires : tie.Need-tell-requires
+tell_requires c κs = search rules
 
 enum_told : tie.Need-enum-told
 enum_told c = search rules
 
-slice-aggregate-line : tie.Need-slice-aggregate-line
-slice-aggregate-line c = search rules
+slice_aggregate_line : tie.Need-slice-aggregate-line
+slice_aggregate_line c = search rules
 
-line-requires : tie.Need-line-requires
-line-requires c κs = search rules
+line_requires : tie.Need-line-requires
+line_requires c κs = search rules
 
-enum-told-2 : tie.Need-enum-told-2
-enum-told-2 c = search rules
+enum_told_2 : tie.Need-enum-told-2
+enum_told_2 c = search rules
 
-slice-aggregate-line-2 : tie.Need-slice-aggregate-line-2
-slice-aggregate-line-2 c = search rules
+slice_aggregate_line_2 : tie.Need-slice-aggregate-line-2
+slice_aggregate_line_2 c = search rules
 
-line-requires-2 : tie.Need-line-requires-2
-line-requires-2 c κs = search rules
+line_requires_2 : tie.Need-line-requires-2
+line_requires_2 c κs = search rules
 
 returns : tie.Need-returns
 returns c = search rules
 
-returns-2 : tie.Need-returns-2
-returns-2 c = search rules
+returns_2 : tie.Need-returns-2
+returns_2 c = search rules
 
-returns-3 : tie.Need-returns-3
-returns-3 c = search rules
+returns_3 : tie.Need-returns-3
+returns_3 c = search rules
 
-pub named-spec : {M : Type 1} → statement M
-named-spec =
+pub named_spec : {M : Type 1} → statement M
+named_spec =
     tie.close
     (tie.spec
-    place-of-requires
-    slice-aggregate-write-all
-    write-all-requires
-    slice-aggregate-write-all-2
-    write-all-requires-2
-    sub-decode
-    part-decode-start
-    part-decode-end
-    slice-aggregate-decode
-    decode-requires
-    enum-known-n
-    slice-aggregate-within
-    within-requires
-    asks-size-requires
-    array-share-prefix-session
-    slice-aggregate-tell
-    tell-requires
+    place_of_requires
+    slice_aggregate_write_all
+    write_all_requires
+    slice_aggregate_write_all_2
+    write_all_requires_2
+    sub_decode
+    part_decode_start
+    part_decode_end
+    slice_aggregate_decode
+    decode_requires
+    enum_known_n
+    slice_aggregate_within
+    within_requires
+    asks_size_requires
+    array_share_prefix_session
+    slice_aggregate_tell
+    tell_requires
     enum_told
-    slice-aggregate-line
-    line-requires
-    enum-told-2
-    slice-aggregate-line-2
-    line-requires-2
+    slice_aggregate_line
+    line_requires
+    enum_told_2
+    slice_aggregate_line_2
+    line_requires_2
     returns
-    returns-2
-    returns-3)
+    returns_2
+    returns_3)

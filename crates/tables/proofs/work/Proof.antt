@@ -5,59 +5,59 @@ use borrow.Author.Rules.{rules}
 use Rattle.tables.proofs.work.Statement.{statement}
 use Rattle.tables.proofs.work.Tie as tie
 
-abbrev invariant-loop : tie.invariant-loop
-invariant-loop text at₀ at = at ≤ length text
+abbrev invariant_loop : tie.invariant_loop
+invariant_loop text at₀ at = at ≤ length text
 
-abbrev decreases-loop : tie.decreases-loop
-decreases-loop text at₀ at = length text - at
+abbrev decreases_loop : tie.decreases_loop
+decreases_loop text at₀ at = length text - at
 
-place-of-requires : tie.Need-place-of-requires invariant-loop decreases-loop
-place-of-requires c κs = search rules
+place_of_requires : tie.Need-place-of-requires invariant_loop decreases_loop
+place_of_requires c κs = search rules
 
-loop-holds : tie.Need-loop-init invariant-loop decreases-loop
-loop-holds c = search rules
+loop_holds : tie.Need-loop-init invariant_loop decreases_loop
+loop_holds c = search rules
 
-add-place-of : tie.Need-overflow-add-place-of invariant-loop decreases-loop
-add-place-of c = search rules
+add_place_of : tie.Need-overflow-add-place-of invariant_loop decreases_loop
+add_place_of c = search rules
 
-place-of-requires-2 : tie.Need-place-of-requires-2 invariant-loop decreases-loop
-place-of-requires-2 c κs = search rules
+place_of_requires_2 : tie.Need-place-of-requires-2 invariant_loop decreases_loop
+place_of_requires_2 c κs = search rules
 
-sub-named : tie.Need-overflow-sub-named invariant-loop decreases-loop
-sub-named c = search rules
+sub_named : tie.Need-overflow-sub-named invariant_loop decreases_loop
+sub_named c = search rules
 
-part-named-start : tie.Need-slice-bounds-named-start invariant-loop decreases-loop
-part-named-start c = search rules
+part_named_start : tie.Need-slice-bounds-named-start invariant_loop decreases_loop
+part_named_start c = search rules
 
-part-named-end : tie.Need-slice-bounds-named-end invariant-loop decreases-loop
-part-named-end c = search rules
+part_named_end : tie.Need-slice-bounds-named-end invariant_loop decreases_loop
+part_named_end c = search rules
 
-named-requires : tie.Need-named-requires invariant-loop decreases-loop
-named-requires c κs = search rules
+named_requires : tie.Need-named-requires invariant_loop decreases_loop
+named_requires c κs = search rules
 
-loop-less : tie.Need-loop-smaller invariant-loop decreases-loop
-loop-less c = search rules
+loop_less : tie.Need-loop-smaller invariant_loop decreases_loop
+loop_less c = search rules
 
-loop-again : tie.Need-loop-preserved invariant-loop decreases-loop
-loop-again c = search rules
+loop_again : tie.Need-loop-preserved invariant_loop decreases_loop
+loop_again c = search rules
 
-returns : tie.Need-returns invariant-loop decreases-loop
+returns : tie.Need-returns invariant_loop decreases_loop
 returns c = search rules
 
-pub work-spec : {M : Type 1} → statement M
-work-spec =
+pub work_spec : {M : Type 1} → statement M
+work_spec =
     tie.close
     (tie.spec
-    invariant-loop
-    decreases-loop
-    place-of-requires
-    loop-holds
-    add-place-of
-    place-of-requires-2
-    sub-named
-    part-named-start
-    part-named-end
-    named-requires
-    loop-less
-    loop-again
+    invariant_loop
+    decreases_loop
+    place_of_requires
+    loop_holds
+    add_place_of
+    place_of_requires_2
+    sub_named
+    part_named_start
+    part_named_end
+    named_requires
+    loop_less
+    loop_again
     returns)

@@ -6,7 +6,7 @@ use native.Mathlib.Nat.{min-eq_left, min-eq_right}
 use native.Mathlib.Omega.{arith}
 use borrow.Author.Rules.{rules}
 use lib.Count.{trailing_le}
-use Rattle.laws.proofs.Search.{cursor-zeros}
+use Rattle.laws.proofs.Search.{cursor_zeros}
 use Rattle.channels.proofs.targets.lowest_from.Statement.{statement}
 use Rattle.channels.proofs.targets.lowest_from.Tie as tie
 
@@ -17,10 +17,10 @@ add_at : tie.Need-overflow-add-at
 add_at c = omega (arith, trailing_le 32 (c.args.mask / 2 ^ c.args.k), c.requires)
 
 returns : tie.Need-returns
-returns c = let a = c.before.args in sym (cursor-zeros a.k a.mask c.before.requires ∙ min-eq_left (omega arith))
+returns c = let a = c.before.args in sym (cursor_zeros a.k a.mask c.before.requires ∙ min-eq_left (omega arith))
 
-returns-2 : tie.Need-returns-2
-returns-2 c = let a = c.before.args in sym (cursor-zeros a.k a.mask c.before.requires ∙ min-eq_right (omega arith))
+returns_2 : tie.Need-returns-2
+returns_2 c = let a = c.before.args in sym (cursor_zeros a.k a.mask c.before.requires ∙ min-eq_right (omega arith))
 
-pub lowest-from-spec : {M : Type 1} → statement M
-lowest-from-spec = tie.close (tie.spec shr_at add_at returns returns-2)
+pub lowest_from_spec : {M : Type 1} → statement M
+lowest_from_spec = tie.close (tie.spec shr_at add_at returns returns_2)

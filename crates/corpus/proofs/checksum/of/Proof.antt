@@ -6,47 +6,47 @@ use lib.ListN.{length}
 use Rattle.corpus.proofs.checksum.of.Statement.{statement}
 use Rattle.corpus.proofs.checksum.of.Tie as tie
 
-abbrev invariant-loop : tie.invariant-loop
-invariant-loop text n sum₀ i₀ sum i = Unit {0}
+abbrev invariant_loop : tie.invariant_loop
+invariant_loop text n sum₀ i₀ sum i = Unit {0}
 
-abbrev decreases-loop : tie.decreases-loop
-decreases-loop text n sum₀ i₀ sum i = length text - i
+abbrev decreases_loop : tie.decreases_loop
+decreases_loop text n sum₀ i₀ sum i = length text - i
 
-loop-holds : tie.Need-loop-init invariant-loop decreases-loop
-loop-holds c = search rules
+loop_holds : tie.Need-loop-init invariant_loop decreases_loop
+loop_holds c = search rules
 
-returns : tie.Need-returns invariant-loop decreases-loop
+returns : tie.Need-returns invariant_loop decreases_loop
 returns c = search rules
 
-shared-slice-read-with : tie.Need-shared-slice-read-with invariant-loop decreases-loop
-shared-slice-read-with c = search rules
+shared_slice_read_with : tie.Need-shared-slice-read-with invariant_loop decreases_loop
+shared_slice_read_with c = search rules
 
-with-requires : tie.Need-with-requires invariant-loop decreases-loop
-with-requires c κs = search rules
+with_requires : tie.Need-with-requires invariant_loop decreases_loop
+with_requires c κs = search rules
 
-add-i : tie.Need-overflow-add-i invariant-loop decreases-loop
-add-i c = search rules
+add_i : tie.Need-overflow-add-i invariant_loop decreases_loop
+add_i c = search rules
 
-loop-less : tie.Need-loop-smaller invariant-loop decreases-loop
-loop-less c = search rules
+loop_less : tie.Need-loop-smaller invariant_loop decreases_loop
+loop_less c = search rules
 
-loop-again : tie.Need-loop-preserved invariant-loop decreases-loop
-loop-again c = search rules
+loop_again : tie.Need-loop-preserved invariant_loop decreases_loop
+loop_again c = search rules
 
-returns-2 : tie.Need-returns-2 invariant-loop decreases-loop
-returns-2 c = search rules
+returns_2 : tie.Need-returns-2 invariant_loop decreases_loop
+returns_2 c = search rules
 
 pub of_spec : {M : Type 1} → statement M
 of_spec =
     tie.close
     (tie.spec
-    invariant-loop
-    decreases-loop
-    loop-holds
+    invariant_loop
+    decreases_loop
+    loop_holds
     returns
-    shared-slice-read-with
-    with-requires
-    add-i
-    loop-less
-    loop-again
-    returns-2)
+    shared_slice_read_with
+    with_requires
+    add_i
+    loop_less
+    loop_again
+    returns_2)

@@ -6,47 +6,47 @@ use borrow.Author.Rules.{rules}
 use Rattle.examples.proofs.document.blocks.Statement.{statement}
 use Rattle.examples.proofs.document.blocks.Tie as tie
 
-abbrev invariant-loop : tie.invariant-loop
-invariant-loop doc fence out₀ inside₀ at₀ n₀ out inside at n = length out ≡ length out₀
+abbrev invariant_loop : tie.invariant_loop
+invariant_loop doc fence out₀ inside₀ at₀ n₀ out inside at n = length out ≡ length out₀
 
-abbrev decreases-loop : tie.decreases-loop
-decreases-loop doc fence out₀ inside₀ at₀ n₀ out inside at n = length doc - at
+abbrev decreases_loop : tie.decreases_loop
+decreases_loop doc fence out₀ inside₀ at₀ n₀ out inside at n = length doc - at
 
-loop-holds : tie.Need-loop-init invariant-loop decreases-loop
-loop-holds c = search rules
+loop_holds : tie.Need-loop-init invariant_loop decreases_loop
+loop_holds c = search rules
 
-line-end-requires : tie.Need-line-end-requires invariant-loop decreases-loop
-line-end-requires c κs = search rules
+line_end_requires : tie.Need-line-end-requires invariant_loop decreases_loop
+line_end_requires c κs = search rules
 
-inside-after-requires : tie.Need-inside-after-requires invariant-loop decreases-loop
-inside-after-requires c κs = search rules
+inside_after_requires : tie.Need-inside-after-requires invariant_loop decreases_loop
+inside_after_requires c κs = search rules
 
-put-line-requires : tie.Need-put-line-requires invariant-loop decreases-loop
-put-line-requires c κs = search rules
+put_line_requires : tie.Need-put-line-requires invariant_loop decreases_loop
+put_line_requires c κs = search rules
 
-loop-less : tie.Need-loop-smaller invariant-loop decreases-loop
-loop-less c = search rules
+loop_less : tie.Need-loop-smaller invariant_loop decreases_loop
+loop_less c = search rules
 
-loop-again : tie.Need-loop-preserved invariant-loop decreases-loop
-loop-again c = search rules
+loop_again : tie.Need-loop-preserved invariant_loop decreases_loop
+loop_again c = search rules
 
-same_length : tie.Need-same-length invariant-loop decreases-loop
+same_length : tie.Need-same-length invariant_loop decreases_loop
 same_length c = search rules
 
-returns : tie.Need-returns invariant-loop decreases-loop
+returns : tie.Need-returns invariant_loop decreases_loop
 returns c = search rules
 
-pub blocks-spec : {M : Type 1} → statement M
-blocks-spec =
+pub blocks_spec : {M : Type 1} → statement M
+blocks_spec =
     tie.close
     (tie.spec
-    invariant-loop
-    decreases-loop
-    loop-holds
-    line-end-requires
-    inside-after-requires
-    put-line-requires
-    loop-less
-    loop-again
+    invariant_loop
+    decreases_loop
+    loop_holds
+    line_end_requires
+    inside_after_requires
+    put_line_requires
+    loop_less
+    loop_again
     same_length
     returns)

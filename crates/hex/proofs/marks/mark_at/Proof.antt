@@ -3,21 +3,21 @@ use borrow.Author.Rules.{rules}
 use Rattle.hex.proofs.marks.mark_at.Statement.{statement}
 use Rattle.hex.proofs.marks.mark_at.Tie as tie
 
-char-at-requires : tie.Need-char-at-requires
-char-at-requires c κs = search rules
+char_at_requires : tie.Need-char-at-requires
+char_at_requires c κs = search rules
 
-add-char-at : tie.Need-overflow-add-char-at
-add-char-at c = search rules
+add_char_at : tie.Need-overflow-add-char-at
+add_char_at c = search rules
 
-char-at-requires-2 : tie.Need-char-at-requires-2
-char-at-requires-2 c κs = search rules
+char_at_requires_2 : tie.Need-char-at-requires-2
+char_at_requires_2 c κs = search rules
 
-mark-of-requires : tie.Need-mark-of-requires
-mark-of-requires c κs = search rules
+mark_of_requires : tie.Need-mark-of-requires
+mark_of_requires c κs = search rules
 
 returns : tie.Need-returns
 returns c = rw (← c.before.before.char-at.ensures, ← c.before.char-at2.ensures) c.mark_of.ensures
 
-pub mark-at-spec : {M : Type 1} → statement M
-mark-at-spec =
-    tie.close (tie.spec char-at-requires add-char-at char-at-requires-2 mark-of-requires returns)
+pub mark_at_spec : {M : Type 1} → statement M
+mark_at_spec =
+    tie.close (tie.spec char_at_requires add_char_at char_at_requires_2 mark_of_requires returns)

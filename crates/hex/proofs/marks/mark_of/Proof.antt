@@ -5,28 +5,28 @@ use Rattle.hex_rules.specs.Hex.{mark_of}
 use Rattle.hex.proofs.marks.mark_of.Statement.{statement}
 use Rattle.hex.proofs.marks.mark_of.Tie as tie
 
-is-control-requires : tie.Need-is-control-requires
-is-control-requires c κs = search rules
+is_control_requires : tie.Need-is-control-requires
+is_control_requires c κs = search rules
 
 returns : tie.Need-returns
 unfolding mark_of
 returns c = rw (sym c.before.is_control.ensures ∙ c.if1.true)
 
-in-comment-requires : tie.Need-in-comment-requires
-in-comment-requires c κs = search rules
+in_comment_requires : tie.Need-in-comment-requires
+in_comment_requires c κs = search rules
 
-returns-2 : tie.Need-returns-2
+returns_2 : tie.Need-returns-2
 unfolding mark_of
-returns-2 c =
+returns_2 c =
     let t = c.before.before in
     rw (sym t.before.is_control.ensures ∙ t.if1.false, sym c.before.in-comment.ensures ∙ c.if2.true)
 
-is-blank-requires : tie.Need-is-blank-requires
-is-blank-requires c κs = search rules
+is_blank_requires : tie.Need-is-blank-requires
+is_blank_requires c κs = search rules
 
-returns-3 : tie.Need-returns-3
+returns_3 : tie.Need-returns-3
 unfolding mark_of
-returns-3 c =
+returns_3 c =
     let u = c.before.before in
     let t = u.before.before in
     rw (
@@ -35,18 +35,18 @@ returns-3 c =
       sym c.before.is-blank.ensures ∙ c.if3.true,
     )
 
-worth-of-requires : tie.Need-worth-of-requires
-worth-of-requires c κs = search rules
+worth_of_requires : tie.Need-worth-of-requires
+worth_of_requires c κs = search rules
 
-worth-of-requires-2 : tie.Need-worth-of-requires-2
-worth-of-requires-2 c κs = search rules
+worth_of_requires_2 : tie.Need-worth-of-requires-2
+worth_of_requires_2 c κs = search rules
 
-byte-of-requires : tie.Need-byte-of-requires
-byte-of-requires c κs = search rules
+byte_of_requires : tie.Need-byte-of-requires
+byte_of_requires c κs = search rules
 
-returns-4 : tie.Need-returns-4
+returns_4 : tie.Need-returns-4
 unfolding mark_of
-returns-4 c =
+returns_4 c =
     let v = c.before.before.before in
     let u = v.before.before in
     let t = u.before.before in
@@ -57,19 +57,19 @@ returns-4 c =
       ← c.before.before.worth-of.ensures,
       ← c.before.worth-of2.ensures,
     )
-    c.byte-of.ensures
+    c.byte_of_lem.ensures
 
-pub mark-of-spec : {M : Type 1} → statement M
-mark-of-spec =
+pub mark_of_spec : {M : Type 1} → statement M
+mark_of_spec =
     tie.close
     (tie.spec
-    is-control-requires
+    is_control_requires
     returns
-    in-comment-requires
-    returns-2
-    is-blank-requires
-    returns-3
-    worth-of-requires
-    worth-of-requires-2
-    byte-of-requires
-    returns-4)
+    in_comment_requires
+    returns_2
+    is_blank_requires
+    returns_3
+    worth_of_requires
+    worth_of_requires_2
+    byte_of_requires
+    returns_4)

@@ -4,51 +4,51 @@ use borrow.Author.Rules.{rules}
 use Rattle.hexbytes.proofs.faults.word_start.Statement.{statement}
 use Rattle.hexbytes.proofs.faults.word_start.Tie as tie
 
-abbrev invariant-loop : tie.invariant-loop
-invariant-loop text at i₀ i = i ≤ at
+abbrev invariant_loop : tie.invariant_loop
+invariant_loop text at i₀ i = i ≤ at
 
-abbrev decreases-loop : tie.decreases-loop
-decreases-loop text at i₀ i = i
+abbrev decreases_loop : tie.decreases_loop
+decreases_loop text at i₀ i = i
 
-loop-holds : tie.Need-loop-init invariant-loop decreases-loop
-loop-holds c = search rules
+loop_holds : tie.Need-loop-init invariant_loop decreases_loop
+loop_holds c = search rules
 
-sub-char-at : tie.Need-overflow-sub-char-at invariant-loop decreases-loop
-sub-char-at c = search rules
+sub_char_at : tie.Need-overflow-sub-char-at invariant_loop decreases_loop
+sub_char_at c = search rules
 
-char-at-requires : tie.Need-char-at-requires invariant-loop decreases-loop
-char-at-requires c κs = search rules
+char_at_requires : tie.Need-char-at-requires invariant_loop decreases_loop
+char_at_requires c κs = search rules
 
-ends-word-requires : tie.Need-ends-word-requires invariant-loop decreases-loop
-ends-word-requires c κs = search rules
+ends_word_requires : tie.Need-ends-word-requires invariant_loop decreases_loop
+ends_word_requires c κs = search rules
 
-returns : tie.Need-returns invariant-loop decreases-loop
+returns : tie.Need-returns invariant_loop decreases_loop
 returns c = search rules
 
-sub-i : tie.Need-overflow-sub-i invariant-loop decreases-loop
-sub-i c = search rules
+sub_i : tie.Need-overflow-sub-i invariant_loop decreases_loop
+sub_i c = search rules
 
-loop-less : tie.Need-loop-smaller invariant-loop decreases-loop
-loop-less c = search rules
+loop_less : tie.Need-loop-smaller invariant_loop decreases_loop
+loop_less c = search rules
 
-loop-again : tie.Need-loop-preserved invariant-loop decreases-loop
-loop-again c = search rules
+loop_again : tie.Need-loop-preserved invariant_loop decreases_loop
+loop_again c = search rules
 
-returns-2 : tie.Need-returns-2 invariant-loop decreases-loop
-returns-2 c = search rules
+returns_2 : tie.Need-returns-2 invariant_loop decreases_loop
+returns_2 c = search rules
 
-pub word-start-spec : {M : Type 1} → statement M
-word-start-spec =
+pub word_start_spec : {M : Type 1} → statement M
+word_start_spec =
     tie.close
     (tie.spec
-    invariant-loop
-    decreases-loop
-    loop-holds
-    sub-char-at
-    char-at-requires
-    ends-word-requires
+    invariant_loop
+    decreases_loop
+    loop_holds
+    sub_char_at
+    char_at_requires
+    ends_word_requires
     returns
-    sub-i
-    loop-less
-    loop-again
-    returns-2)
+    sub_i
+    loop_less
+    loop_again
+    returns_2)

@@ -9,16 +9,16 @@ returns : tie.Need-returns
 unfolding code_of
 returns c = rw (eq-eqb _ _ c.if1.true)
 
-initialises-requires : tie.Need-initialises-requires
-initialises-requires c κs = search rules
+initialises_requires : tie.Need-initialises-requires
+initialises_requires c κs = search rules
 
-returns-2 : tie.Need-returns-2
+returns_2 : tie.Need-returns-2
 unfolding code_of initialises
-returns-2 c = rw (ne_eqb _ _ c.before.before.if1.false, sym c.before.initialises.ensures.told ∙ c.if2.true)
+returns_2 c = rw (ne_eqb _ _ c.before.before.if1.false, sym c.before.initialises.ensures.told ∙ c.if2.true)
 
-returns-3 : tie.Need-returns-3
+returns_3 : tie.Need-returns-3
 unfolding code_of initialises
-returns-3 c = rw (ne_eqb _ _ c.before.before.if1.false, sym c.before.initialises.ensures.told ∙ c.if2.false)
+returns_3 c = rw (ne_eqb _ _ c.before.before.if1.false, sym c.before.initialises.ensures.told ∙ c.if2.false)
 
-pub code-of-spec : {M : Type 1} → statement M
-code-of-spec = tie.close (tie.spec returns initialises-requires returns-2 returns-3)
+pub code_of_spec : {M : Type 1} → statement M
+code_of_spec = tie.close (tie.spec returns initialises_requires returns_2 returns_3)

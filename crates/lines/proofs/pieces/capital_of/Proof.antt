@@ -4,24 +4,24 @@ use borrow.Author.Tests.{lt-ltb, le-ltb}
 use Rattle.lines.proofs.pieces.capital_of.Statement.{statement}
 use Rattle.lines.proofs.pieces.capital_of.Tie as tie
 
-add-result : tie.Need-overflow-add-result
-add-result c = search rules
+add_result : tie.Need-overflow-add-result
+add_result c = search rules
 
-cast-result : tie.Need-overflow-cast-result
-cast-result c = search rules
+cast_result : tie.Need-overflow-cast-result
+cast_result c = search rules
 
 returns : tie.Need-returns
 returns c = simp (lt-ltb _ _ c.if1.true)
 
-add-result-2 : tie.Need-overflow-add-result-2
-add-result-2 c = search rules
+add_result_2 : tie.Need-overflow-add-result-2
+add_result_2 c = search rules
 
-cast-result-2 : tie.Need-overflow-cast-result-2
-cast-result-2 c = search rules
+cast_result_2 : tie.Need-overflow-cast-result-2
+cast_result_2 c = search rules
 
-returns-2 : tie.Need-returns-2
-returns-2 c = simp (le-ltb _ _ c.if1.false)
+returns_2 : tie.Need-returns-2
+returns_2 c = simp (le-ltb _ _ c.if1.false)
 
-pub capital-of-spec : {M : Type 1} → statement M
-capital-of-spec =
-    tie.close (tie.spec add-result cast-result returns add-result-2 cast-result-2 returns-2)
+pub capital_of_spec : {M : Type 1} → statement M
+capital_of_spec =
+    tie.close (tie.spec add_result cast_result returns add_result_2 cast_result_2 returns_2)

@@ -19,8 +19,8 @@ returns c =
     let a = c.before.args in
     sym (lt-leb (a.at + a.n) a.length (omega arith))
 
-returns-2 : tie.Need-returns-2
-returns-2 c = asked _ _ _ c.if1.false
+returns_2 : tie.Need-returns-2
+returns_2 c = asked _ _ _ c.if1.false
 
-pub has-room-spec : {M : Type 1} → statement M
-has-room-spec = tie.close (tie.spec returns returns-2)
+pub has_room_spec : {M : Type 1} → statement M
+has_room_spec = tie.close (tie.spec returns returns_2)

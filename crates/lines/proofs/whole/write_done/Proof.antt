@@ -3,28 +3,28 @@ use Prim.Native.Nat.{◌+◌, ◌≤◌}
 use native.Mathlib.Omega.{arith}
 use lib.ListN.{length}
 use borrow.Author.Rules.{rules}
-use Rattle.file_rules.proofs.Joined.{piece-length, room_after}
-use Rattle.listing_rules.proofs.Numbers.{decimal-long}
-use Rattle.lines.proofs.LineParts.{done-joined}
+use Rattle.file_rules.proofs.Joined.{piece_length, room_after}
+use Rattle.listing_rules.proofs.Numbers.{decimal_long}
+use Rattle.lines.proofs.LineParts.{done_joined}
 use Rattle.lines.proofs.whole.write_done.Statement.{statement}
 use Rattle.lines.proofs.whole.write_done.Tie as tie
 
-after-number : (c : tie.After-put-long) → c.put-long.result + 54 ≤ length c.put-long.new.0
-after-number c = room_after 10 54 c.before.before.before.requires c.put-long.ensures (decimal-long 9 _)
+after_number : (c : tie.After-put-long) → c.put-long.result + 54 ≤ length c.put-long.new.0
+after_number c = room_after 10 54 c.before.before.before.requires c.put-long.ensures (decimal_long 9 _)
 
-put-long-requires : tie.Need-put-long-requires
-put-long-requires c κs = search rules
+put_long_requires : tie.Need-put-long-requires
+put_long_requires c κs = search rules
 
-slice-aggregate-put-bytes : tie.Need-slice-aggregate-put-bytes
-slice-aggregate-put-bytes c = search rules
+slice_aggregate_put_bytes : tie.Need-slice-aggregate-put-bytes
+slice_aggregate_put_bytes c = search rules
 
-put-bytes-requires : tie.Need-put-bytes-requires
-put-bytes-requires c κs = omega (arith, after-number c.before.before.before.before)
+put_bytes_requires : tie.Need-put-bytes-requires
+put_bytes_requires c κs = omega (arith, after_number c.before.before.before.before)
 
-put-rest-requires : tie.Need-put-rest-requires
-put-rest-requires c κs =
+put_rest_requires : tie.Need-put-rest-requires
+put_rest_requires c κs =
     let t = c.before.before.before in
-    omega (arith, room_after 11 43 (after-number t.before.before.before.before.before) t.put-bytes.ensures (omega arith))
+    omega (arith, room_after 11 43 (after_number t.before.before.before.before.before) t.put-bytes.ensures (omega arith))
 
 returns : tie.Need-returns
 returns c =
@@ -32,13 +32,13 @@ returns c =
     let zeros = end.before.before.before.before in
     let number = zeros.before.before.before.before.before in
     let args = number.before.before.before.args in
-    done-joined args.number args.moved args.fate args.count
+    done_joined args.number args.moved args.fate args.count
     number.put-long.ensures
     zeros.put-bytes.ensures
     end.put_rest.ensures
 
 same_length : tie.Need-same-length
-same_length c = piece-length (returns c)
+same_length c = piece_length (returns c)
 
-pub write-done-spec : {M : Type 1} → statement M
-write-done-spec = tie.close (tie.spec put-long-requires slice-aggregate-put-bytes put-bytes-requires put-rest-requires same_length returns)
+pub write_done_spec : {M : Type 1} → statement M
+write_done_spec = tie.close (tie.spec put_long_requires slice_aggregate_put_bytes put_bytes_requires put_rest_requires same_length returns)

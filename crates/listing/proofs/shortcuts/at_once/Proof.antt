@@ -3,17 +3,17 @@ use Prim.Native.Nat.{ℕ}
 use mathlib.Core.Path.{refl, sym, subst, ◌∙◌}
 use borrow.Author.Rules.{rules}
 use Rattle.rules.specs.Record.{State, state_of}
-use Rattle.record.proofs.Depths.{depth-told}
+use Rattle.record.proofs.Depths.{depth_told}
 use Rattle.moves.specs.Ready.{Ready}
-use Rattle.moves.proofs.Clocking.{clocked-does}
-use Rattle.board.proofs.Standing.{stands-ready, stands-sober}
-use Rattle.listing.specs.Shortcuts.{boardWith}
-use Rattle.listing.proofs.AtOnce.{load-common, tick-common, quick-load, quick-tick, stored-stepped, ticked-stepped, takes-with, ticks-with}
+use Rattle.moves.proofs.Clocking.{clocked_does}
+use Rattle.board.proofs.Standing.{stands_ready, stands_sober}
+use Rattle.listing.specs.Shortcuts.{board_with}
+use Rattle.listing.proofs.AtOnce.{load_common, tick_common, quick_load, quick_tick, stored_stepped, ticked_stepped, takes_with, ticks_with}
 use Rattle.listing.proofs.shortcuts.at_once.Statement.{statement}
 use Rattle.listing.proofs.shortcuts.at_once.Tie as tie
 
-load-requires : tie.Need-load-requires
-load-requires c κs = tt
+load_requires : tie.Need-load-requires
+load_requires c κs = tt
 
 same_length : tie.Need-same-length
 same_length c = search rules
@@ -21,37 +21,37 @@ same_length c = search rules
 returns : tie.Need-returns
 returns c =
     let a = c.before.before.before.before.before.before.before.before.before.before.before.args in
-    let w = quick-load a.b a.d a.kind c.before.before.before.before.before.before.before.before.before.before.before.requires.1 c.before.before.before.before.before.before.before.if1.true in
-    let s : State = state_of (boardWith a.b a.levels.now) a.memory.now in
+    let w = quick_load a.b a.d a.kind c.before.before.before.before.before.before.before.before.before.before.before.requires.1 c.before.before.before.before.before.before.before.if1.true in
+    let s : State = state_of (board_with a.b a.levels.now) a.memory.now in
     let st = c.before.before.before.before.before.before.before.before.before.before.before.requires.2 w.0 in
-    rw (load-common a.kind a.value c.before.before.before.before.before.before.before.if1.true)
-    (stored-stepped s a.d a.value st (depth-told a.b _ c.before.before.before.before.before.before.before.before.before.before.before.requires.0 st.sound.fitted) (takes-with a.b a.d a.levels.now ∙ w.1)
+    rw (load_common a.kind a.value c.before.before.before.before.before.before.before.if1.true)
+    (stored_stepped s a.d a.value st (depth_told a.b _ c.before.before.before.before.before.before.before.before.before.before.before.requires.0 st.sound.fitted) (takes_with a.b a.d a.levels.now ∙ w.1)
     a.b.core _ _ refl c.before.before.before.before.before.load.ensures)
 
-serve-requires : tie.Need-serve-requires
-serve-requires c κs = tt
+serve_requires : tie.Need-serve-requires
+serve_requires c κs = tt
 
-deal-requires : tie.Need-deal-requires
-deal-requires c κs = tt
+deal_requires : tie.Need-deal-requires
+deal_requires c κs = tt
 
-same-length-2 : tie.Need-same-length-2
-same-length-2 c = search rules
+same_length_2 : tie.Need-same-length-2
+same_length_2 c = search rules
 
-returns-2 : tie.Need-returns-2
-returns-2 c =
+returns_2 : tie.Need-returns-2
+returns_2 c =
     let a = c.before.before.before.before.before.before.before.before.before.before.before.before.before.before.before.args in
-    let w = quick-tick a.b a.d a.kind c.before.before.before.before.before.before.before.before.before.before.before.before.before.before.before.requires.1 c.before.before.before.before.before.before.before.before.before.before.before.if1.false in
-    let s : State = state_of (boardWith a.b a.levels.now) a.memory.now in
+    let w = quick_tick a.b a.d a.kind c.before.before.before.before.before.before.before.before.before.before.before.before.before.before.before.requires.1 c.before.before.before.before.before.before.before.before.before.before.before.if1.false in
+    let s : State = state_of (board_with a.b a.levels.now) a.memory.now in
     let st = c.before.before.before.before.before.before.before.before.before.before.before.before.before.before.before.requires.2 w.0 in
-    let e = depth-told a.b _ c.before.before.before.before.before.before.before.before.before.before.before.before.before.before.before.requires.0 st.sound.fitted in
-    let sober = stands-sober s st in
-    let ready = subst (λ (k : ℕ). Ready k a.b.ring a.memory.now) (sym e) (stands-ready s st) in
-    let does = clocked-does a.b.core a.b.ring a.d a.levels.now a.memory.now ready (record { mask = sober.mask; cursor = sober.cursor })
+    let e = depth_told a.b _ c.before.before.before.before.before.before.before.before.before.before.before.before.before.before.before.requires.0 st.sound.fitted in
+    let sober = stands_sober s st in
+    let ready = subst (λ (k : ℕ). Ready k a.b.ring a.memory.now) (sym e) (stands_ready s st) in
+    let does = clocked_does a.b.core a.b.ring a.d a.levels.now a.memory.now ready (record { mask = sober.mask; cursor = sober.cursor })
     _ _ _ _ c.before.before.before.before.before.before.before.before.before.before.serve.ensures c.before.before.before.before.before.deal.ensures in
-    rw (tick-common a.kind a.value w.1)
-    (ticked-stepped s a.d st e (ticks-with a.b.core a.levels.now ∙ w.2) _ _ refl does)
+    rw (tick_common a.kind a.value w.1)
+    (ticked_stepped s a.d st e (ticks_with a.b.core a.levels.now ∙ w.2) _ _ refl does)
 
-pub at-once-spec : {M : Type 1} → statement M
-at-once-spec =
+pub at_once_spec : {M : Type 1} → statement M
+at_once_spec =
     tie.close
-    (tie.spec load-requires same_length returns serve-requires deal-requires same-length-2 returns-2)
+    (tie.spec load_requires same_length returns serve_requires deal_requires same_length_2 returns_2)

@@ -4,12 +4,12 @@ use Rattle.listing.specs.Shortcuts.{ticks}
 use Rattle.listing.proofs.shortcuts.ticks.Statement.{statement}
 use Rattle.listing.proofs.shortcuts.ticks.Tie as tie
 
-tick-accepted-requires : tie.Need-tick-accepted-requires
-tick-accepted-requires c κs = search rules
+tick_accepted_requires : tie.Need-tick-accepted-requires
+tick_accepted_requires c κs = search rules
 
 returns : tie.Need-returns
 unfolding ticks all
-returns c = rw c.tick-accepted.ensures.told
+returns c = rw c.tick_accepted_lem.ensures.told
 
-pub ticks-spec : {M : Type 1} → statement M
-ticks-spec = tie.close (tie.spec tick-accepted-requires returns)
+pub ticks_spec : {M : Type 1} → statement M
+ticks_spec = tie.close (tie.spec tick_accepted_requires returns)

@@ -9,32 +9,32 @@ use Rattle.rules.specs.declared.Board.{Board}
 use Rattle.rules.specs.Record.{State, unpowered, state_of}
 use Rattle.rules.specs.Session.{after}
 use Rattle.file_rules.specs.File.{session}
-use Rattle.file_rules.proofs.Given.{item-exactly}
-use Rattle.file_rules.proofs.Sessions.{given-within}
+use Rattle.file_rules.proofs.Given.{item_exactly}
+use Rattle.file_rules.proofs.Sessions.{given_within}
 use Rattle.listing_rules.specs.Listing.{body}
-use Rattle.run.proofs.Ways.{end-stood, way-ends}
+use Rattle.run.proofs.Ways.{end_stood, way_ends}
 use Rattle.file_rules.specs.Pieces.{Piece}
-use Rattle.lines.proofs.Printing.{printed-piece}
+use Rattle.lines.proofs.Printing.{printed_piece}
 use Rattle.listing.specs.Draft.{draft, Walked}
 use Rattle.listing.proofs.Body.{in_reach}
-use Rattle.listing.proofs.Walking.{walked_start, walked_then, walked_on, walked-over, tail-room, line-room, number_small}
+use Rattle.listing.proofs.Walking.{walked_start, walked_then, walked_on, walked_over, tail_room, line_room, number_small}
 use Rattle.listing.proofs.whole.put_body.Statement.{statement}
 use Rattle.listing.proofs.whole.put_body.Tie as tie
 
-abbrev invariant-loop : tie.invariant-loop
-invariant-loop s memory₀ out₀ start at₀ b₀ c₀ number₀ memory out at b c number =
+abbrev invariant_loop : tie.invariant_loop
+invariant_loop s memory₀ out₀ start at₀ b₀ c₀ number₀ memory out at b c number =
     (length memory ≡ length memory₀) × (length out ≡ length out₀)
     × Walked s (record { place = 0 }) (draft b₀ memory₀ out₀ start 1) c (draft b memory out at number)
 
-abbrev decreases-loop : tie.decreases-loop
-decreases-loop s memory₀ out₀ start at₀ b₀ c₀ number₀ memory out at b c number = length s - c.place
+abbrev decreases_loop : tie.decreases_loop
+decreases_loop s memory₀ out₀ start at₀ b₀ c₀ number₀ memory out at b c number = length s - c.place
 
-unpowered-requires : tie.Need-unpowered-requires invariant-loop decreases-loop
-unpowered-requires c κs = tt
+unpowered_requires : tie.Need-unpowered-requires invariant_loop decreases_loop
+unpowered_requires c κs = tt
 
-loop-holds : tie.Need-loop-init invariant-loop decreases-loop
+loop_holds : tie.Need-loop-init invariant_loop decreases_loop
 unfolding unpowered
-loop-holds c =
+loop_holds c =
     let z = c.before.before.before.before in
     let dark = ap (λ (b : Board). b.core.powered) c.unpowered.ensures.told in (
       refl,
@@ -48,34 +48,34 @@ loop-holds c =
           }),
     )
 
-hurry-requires : tie.Need-hurry-requires invariant-loop decreases-loop
-hurry-requires c κs =
+hurry_requires : tie.Need-hurry-requires invariant_loop decreases_loop
+hurry_requires c κs =
     let l = c.before.before in
     (l.before.before.before.before.before.requires.0, l.loop.invariant.2.fair)
 
-enum-known-n : tie.Need-enum-known-n invariant-loop decreases-loop
-enum-known-n c = search rules
+enum_known_n : tie.Need-enum-known-n invariant_loop decreases_loop
+enum_known_n c = search rules
 
-step-requires : tie.Need-step-requires invariant-loop decreases-loop
-step-requires c κs = tt
+step_requires : tie.Need-step-requires invariant_loop decreases_loop
+step_requires c κs = tt
 
-put-line-requires : tie.Need-put-line-requires invariant-loop decreases-loop
-put-line-requires c κs = tt
+put_line_requires : tie.Need-put-line-requires invariant_loop decreases_loop
+put_line_requires c κs = tt
 
-add-number : tie.Need-overflow-add-number invariant-loop decreases-loop
-add-number c =
+add_number : tie.Need-overflow-add-number invariant_loop decreases_loop
+add_number c =
     let q = c.before.before.before.before.before.before.before.before.before.before.before.before.before.before.before.before.before.before.before in
     record { fits = omega (arith, number_small _ _ _ _ _ _ _ q.hurry.ensures.walked.fair q.before.before.before.before.before.before.before.before.requires.0) }
 
-loop-less : tie.Need-loop-smaller invariant-loop decreases-loop
-loop-less c =
+loop_less : tie.Need-loop-smaller invariant_loop decreases_loop
+loop_less c =
     let q = c.before.before.before.before.before.before.before.before.before.before.before.before.before.before.before.before.before.before.before in
     let n = c.before.before.before.before.before.before.before.before.before.before.before.before.n.given in
     let h = q.hurry.ensures in
-    omega (arith, h.walked.nearer, way-ends q.before.before.before.before.before.before.before.before.args.s.now h.cursor n.0.1.0 n.0.0 (sym h.stands ∙ n.1))
+    omega (arith, h.walked.nearer, way_ends q.before.before.before.before.before.before.before.before.args.s.now h.cursor n.0.1.0 n.0.0 (sym h.stands ∙ n.1))
 
-loop-again : tie.Need-loop-preserved invariant-loop decreases-loop
-loop-again c =
+loop_again : tie.Need-loop-preserved invariant_loop decreases_loop
+loop_again c =
     let p = c.before.before.before.before.before.before.before.before.before in
     let q = p.before.before.before.before.before.before.before.before.before.before in
     let l = q.before.before.before.loop in
@@ -83,38 +83,38 @@ loop-again c =
     let h = q.hurry.ensures in
     let f = h.walked.fair in
     let put = c.before.before.before.put-line in
-    let line = printed-piece put.ensures (line-room _ _ q.hurry.result.board _ _ _ _ f) in
+    let line = printed_piece put.ensures (line_room _ _ q.hurry.result.board _ _ _ _ f) in
     let on = walked_on _ h.cursor q.hurry.result.board _ _ _ _ f n.0.1.0 n.0.0 (sym h.stands ∙ n.1) _ _ _ _ p.step.ensures line in (
       p.step.auto.1.0 ∙ q.hurry.auto.1.1.1.1.1.0 ∙ l.invariant.0,
       put.auto.0 ∙ q.hurry.auto.1.1.1.1.1.1.0 ∙ l.invariant.1,
       walked_then _ _ _ _ _ _ _ l.invariant.2 (walked_then _ _ _ _ _ _ _ h.walked on),
     )
 
-enum-known-n-2 : tie.Need-enum-known-n-2 invariant-loop decreases-loop
-enum-known-n-2 c = search rules
+enum_known_n_2 : tie.Need-enum-known-n-2 invariant_loop decreases_loop
+enum_known_n_2 c = search rules
 
-put-end-requires : tie.Need-put-end-requires invariant-loop decreases-loop
-put-end-requires c κs =
+put_end_requires : tie.Need-put-end-requires invariant_loop decreases_loop
+put_end_requires c κs =
     let q = c.before.before.before.before.before.before.before.before.before.before in
     let z = q.before.before.before.before.before.before.before.before in
     let s = z.args.s.now in
     let h = q.hurry.ensures in
     let n = c.before.before.before.n2.given in
-    let stood = end-stood s h.cursor n.0.0 (sym h.stands ∙ n.1) in
-    let there = given-within s h.cursor.place _ ((item-exactly s h.cursor.place _).0 stood) in
-    (tail-room _ _ q.hurry.result.board _ _ _ _ h.walked.fair, in_reach s n.0.0 z.requires.0 there)
+    let stood = end_stood s h.cursor n.0.0 (sym h.stands ∙ n.1) in
+    let there = given_within s h.cursor.place _ ((item_exactly s h.cursor.place _).0 stood) in
+    (tail_room _ _ q.hurry.result.board _ _ _ _ h.walked.fair, in_reach s n.0.0 z.requires.0 there)
 
-same_length : tie.Need-same-length invariant-loop decreases-loop
+same_length : tie.Need-same-length invariant_loop decreases_loop
 same_length c =
     let q = c.before.before.before.before.before.before.before.before.before.before.before.before.before in
     q.hurry.auto.1.1.1.1.1.0 ∙ q.before.before.before.loop.invariant.0
 
-same-length-2 : tie.Need-same-length-2 invariant-loop decreases-loop
-same-length-2 c =
+same_length_2 : tie.Need-same-length-2 invariant_loop decreases_loop
+same_length_2 c =
     let q = c.before.before.before.before.before.before.before.before.before.before.before.before.before in
     c.before.before.put-end.auto.0 ∙ q.hurry.auto.1.1.1.1.1.1.0 ∙ q.before.before.before.loop.invariant.1
 
-returns : tie.Need-returns invariant-loop decreases-loop
+returns : tie.Need-returns invariant_loop decreases_loop
 returns c =
     let q = c.before.before.before.before.before.before.before.before.before.before.before.before.before in
     let l = q.before.before.before in
@@ -123,29 +123,29 @@ returns c =
     let n = c.before.before.before.before.before.before.n2.given in
     let put = c.before.before.put-end in
     let all = walked_then _ _ _ _ _ _ _ l.loop.invariant.2 h.walked in
-    let w = walked-over a.s.now _ h.cursor _ n.0.0 put.new.0 put.result all (sym h.stands ∙ n.1) put.ensures in
+    let w = walked_over a.s.now _ h.cursor _ n.0.0 put.new.0 put.result all (sym h.stands ∙ n.1) put.ensures in
     let dark = ap (λ (b : Board). state_of b a.memory.now) l.before.unpowered.ensures.told in (
       subst (λ (st : State). Piece a.out.now a.start (body 1 st (session a.s.now)) put.new.0 put.result) dark w.text,
       w.memory ∙ ap (λ (st : State). (after st (session a.s.now).events).memory) dark,
     )
 
-pub put-body-spec : {M : Type 1} → statement M
-put-body-spec =
+pub put_body_spec : {M : Type 1} → statement M
+put_body_spec =
     tie.close
     (tie.spec
-    invariant-loop
-    decreases-loop
-    unpowered-requires
-    loop-holds
-    hurry-requires
-    enum-known-n
-    step-requires
-    put-line-requires
-    add-number
-    loop-less
-    loop-again
-    enum-known-n-2
-    put-end-requires
+    invariant_loop
+    decreases_loop
+    unpowered_requires
+    loop_holds
+    hurry_requires
+    enum_known_n
+    step_requires
+    put_line_requires
+    add_number
+    loop_less
+    loop_again
+    enum_known_n_2
+    put_end_requires
     same_length
-    same-length-2
+    same_length_2
     returns)

@@ -1,14 +1,14 @@
-use Rattle.rules.specs.Clocks.{burstAfter}
+use Rattle.rules.specs.Clocks.{burst_after}
 use Rattle.moves.proofs.frames.burst_after.Statement.{statement}
 use Rattle.moves.proofs.frames.burst_after.Tie as tie
 
 returns : tie.Need-returns
-unfolding burstAfter
+unfolding burst_after
 returns c = rw c.if1.true
 
-returns-2 : tie.Need-returns-2
-unfolding burstAfter
-returns-2 c = rw c.if1.false
+returns_2 : tie.Need-returns-2
+unfolding burst_after
+returns_2 c = rw c.if1.false
 
-pub burst-after-spec : {M : Type 1} → statement M
-burst-after-spec = tie.close (tie.spec returns returns-2)
+pub burst_after_spec : {M : Type 1} → statement M
+burst_after_spec = tie.close (tie.spec returns returns_2)

@@ -8,5 +8,5 @@ returns : tie.Need-returns
 unfolding fits all
 returns c = refl
 
-pub fits-spec : {M : Type 1} → statement M
-fits-spec = tie.close (tie.spec returns)
+pub fits_spec : {M : Type 1} → statement M
+fits_spec = tie.close (tie.spec returns)

@@ -10,11 +10,11 @@ returns c =
     let d = c.before.args.d in
     (sym (ap (λ (x : ℕ). x % d) c.if1.true ∙ mod_self d), omega (arith, c.if1.true, c.before.requires.0))
 
-returns-2 : tie.Need-returns-2
-returns-2 c =
+returns_2 : tie.Need-returns-2
+returns_2 c =
     let a = c.before.args in
     let l : a.x < a.d = omega (arith, c.if1.false, c.before.requires.1) in
     (sym (mod-eq_of_lt l), l)
 
-pub stepped-spec : {M : Type 1} → statement M
-stepped-spec = tie.close (tie.spec returns returns-2)
+pub stepped_spec : {M : Type 1} → statement M
+stepped_spec = tie.close (tie.spec returns returns_2)

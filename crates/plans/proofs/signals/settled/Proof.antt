@@ -8,5 +8,5 @@ returns : tie.Need-returns
 unfolding settles
 returns c = refl
 
-pub settled-spec : {M : Type 1} → statement M
-settled-spec = tie.close (tie.spec returns)
+pub settled_spec : {M : Type 1} → statement M
+settled_spec = tie.close (tie.spec returns)

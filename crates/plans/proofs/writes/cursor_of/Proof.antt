@@ -1,22 +1,22 @@
 -- What D07 was picks the test of what it is.
 use borrow.Author.Rules.{rules}
-use Rattle.rules.specs.Writes.{cursorOf}
+use Rattle.rules.specs.Writes.{cursor_of}
 use Rattle.plans.proofs.writes.cursor_of.Statement.{statement}
 use Rattle.plans.proofs.writes.cursor_of.Tie as tie
 
-pick-requires : tie.Need-pick-requires
-pick-requires c κs = search rules
+pick_requires : tie.Need-pick-requires
+pick_requires c κs = search rules
 
 returns : tie.Need-returns
-unfolding cursorOf
+unfolding cursor_of
 returns c = cc
 
-pick-requires-2 : tie.Need-pick-requires-2
-pick-requires-2 c κs = search rules
+pick_requires_2 : tie.Need-pick-requires-2
+pick_requires_2 c κs = search rules
 
-returns-2 : tie.Need-returns-2
-unfolding cursorOf
-returns-2 c = cc
+returns_2 : tie.Need-returns-2
+unfolding cursor_of
+returns_2 c = cc
 
-pub cursor-of-spec : {M : Type 1} → statement M
-cursor-of-spec = tie.close (tie.spec pick-requires returns pick-requires-2 returns-2)
+pub cursor_of_spec : {M : Type 1} → statement M
+cursor_of_spec = tie.close (tie.spec pick_requires returns pick_requires_2 returns_2)

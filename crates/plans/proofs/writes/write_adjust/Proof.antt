@@ -1,12 +1,12 @@
--- The record computes to the one of `writeAdjust`.
+-- The record computes to the one of `write_adjust`.
 use mathlib.Core.Path.{refl}
-use Rattle.rules.specs.Writes.{writeAdjust}
+use Rattle.rules.specs.Writes.{write_adjust}
 use Rattle.plans.proofs.writes.write_adjust.Statement.{statement}
 use Rattle.plans.proofs.writes.write_adjust.Tie as tie
 
 returns : tie.Need-returns
-unfolding writeAdjust
+unfolding write_adjust
 returns c = refl
 
-pub write-adjust-spec : {M : Type 1} → statement M
-write-adjust-spec = tie.close (tie.spec returns)
+pub write_adjust_spec : {M : Type 1} → statement M
+write_adjust_spec = tie.close (tie.spec returns)

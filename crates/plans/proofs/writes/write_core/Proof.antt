@@ -5,31 +5,31 @@ use Rattle.plans.specs.Parts.{core_of}
 use Rattle.plans.proofs.writes.write_core.Statement.{statement}
 use Rattle.plans.proofs.writes.write_core.Tie as tie
 
-write-control-requires : tie.Need-write-control-requires
-write-control-requires c κs = search rules
+write_control_requires : tie.Need-write-control-requires
+write_control_requires c κs = search rules
 
 returns : tie.Need-returns
 unfolding core_of
 returns c = rw (c.write-control.ensures, eq-eqb _ _ c.before.if1.true)
 
-write-mask-requires : tie.Need-write-mask-requires
-write-mask-requires c κs = search rules
+write_mask_requires : tie.Need-write-mask-requires
+write_mask_requires c κs = search rules
 
-returns-2 : tie.Need-returns-2
+returns_2 : tie.Need-returns-2
 unfolding core_of
-returns-2 c =
+returns_2 c =
     rw (
       c.write-mask.ensures,
       ne_eqb _ _ c.before.before.if1.false,
       eq-eqb _ _ c.before.if2.true,
     )
 
-write-rate-requires : tie.Need-write-rate-requires
-write-rate-requires c κs = search rules
+write_rate_requires : tie.Need-write-rate-requires
+write_rate_requires c κs = search rules
 
-returns-3 : tie.Need-returns-3
+returns_3 : tie.Need-returns-3
 unfolding core_of
-returns-3 c =
+returns_3 c =
     rw (
       c.write-rate.ensures,
       ne_eqb _ _ c.before.before.before.if1.false,
@@ -37,12 +37,12 @@ returns-3 c =
       eq-eqb _ _ c.before.if3.true,
     )
 
-write-adjust-requires : tie.Need-write-adjust-requires
-write-adjust-requires c κs = search rules
+write_adjust_requires : tie.Need-write-adjust-requires
+write_adjust_requires c κs = search rules
 
-returns-4 : tie.Need-returns-4
+returns_4 : tie.Need-returns-4
 unfolding core_of
-returns-4 c =
+returns_4 c =
     rw (
       c.write-adjust.ensures,
       ne_eqb _ _ c.before.before.before.if1.false,
@@ -50,15 +50,15 @@ returns-4 c =
       ne_eqb _ _ c.before.if3.false,
     )
 
-pub write-core-spec : {M : Type 1} → statement M
-write-core-spec =
+pub write_core_spec : {M : Type 1} → statement M
+write_core_spec =
     tie.close
     (tie.spec
-    write-control-requires
+    write_control_requires
     returns
-    write-mask-requires
-    returns-2
-    write-rate-requires
-    returns-3
-    write-adjust-requires
-    returns-4)
+    write_mask_requires
+    returns_2
+    write_rate_requires
+    returns_3
+    write_adjust_requires
+    returns_4)

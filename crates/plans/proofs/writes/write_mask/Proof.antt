@@ -1,24 +1,24 @@
--- The record is the one of `writeMask`, with the span of the mask from `mask_limit`.
+-- The record is the one of `write_mask`, with the span of the mask from `mask_limit`.
 use Prim.Native.Nat.{◌%◌}
 use native.Mathlib.Omega.{arith}
 use borrow.Author.Rules.{rules}
-use Rattle.rules.specs.Parts.{withOutputs}
-use Rattle.rules.specs.Writes.{writeMask}
-use Rattle.record.proofs.Limits.{limit-least}
+use Rattle.rules.specs.Parts.{with_outputs}
+use Rattle.rules.specs.Writes.{write_mask}
+use Rattle.record.proofs.Limits.{limit_least}
 use Rattle.plans.proofs.writes.write_mask.Statement.{statement}
 use Rattle.plans.proofs.writes.write_mask.Tie as tie
 
-mask-limit-requires : tie.Need-mask-limit-requires
-mask-limit-requires c κs = search rules
+mask_limit_requires : tie.Need-mask-limit-requires
+mask_limit_requires c κs = search rules
 
-rem-mask : tie.Need-nonzero-rem-mask
-rem-mask c = omega (arith, limit-least _ _ c.mask-limit.ensures)
+rem_mask : tie.Need-nonzero-rem-mask
+rem_mask c = omega (arith, limit_least _ _ c.mask-limit.ensures)
 
 returns : tie.Need-returns
-unfolding writeMask
+unfolding write_mask
 returns c =
     let a = c.before.before.before.args in
-    λ i. withOutputs (record { mask = a.v % c.before.before.mask-limit.ensures.told i; cursor = 0; levels = a.c.outputs.levels }) a.c
+    λ i. with_outputs (record { mask = a.v % c.before.before.mask-limit.ensures.told i; cursor = 0; levels = a.c.outputs.levels }) a.c
 
-pub write-mask-spec : {M : Type 1} → statement M
-write-mask-spec = tie.close (tie.spec mask-limit-requires rem-mask returns)
+pub write_mask_spec : {M : Type 1} → statement M
+write_mask_spec = tie.close (tie.spec mask_limit_requires rem_mask returns)

@@ -1,36 +1,36 @@
 use mathlib.Core.Path.{◌∙◌}
 use borrow.Author.Rules.{rules}
-use Rattle.rules.specs.Registers.{bufferBits, registers, readFrom}
-use Rattle.registers.proofs.BitNumbers.{bitsOf-4}
+use Rattle.rules.specs.Registers.{buffer_bits, registers, read_from}
+use Rattle.registers.proofs.BitNumbers.{bits_of_4}
 use Rattle.registers.proofs.bitwise.read_buffer.Statement.{statement}
 use Rattle.registers.proofs.bitwise.read_buffer.Tie as tie
 
-active-size-requires : tie.Need-active-size-requires
-active-size-requires c κs = search rules
+active_size_requires : tie.Need-active-size-requires
+active_size_requires c κs = search rules
 
-clock-ready-requires : tie.Need-clock-ready-requires
-clock-ready-requires c κs = search rules
+clock_ready_requires : tie.Need-clock-ready-requires
+clock_ready_requires c κs = search rules
 
-closed-requires : tie.Need-closed-requires
-closed-requires c κs = search rules
+closed_requires : tie.Need-closed-requires
+closed_requires c κs = search rules
 
-is-empty-requires : tie.Need-is-empty-requires
-is-empty-requires c κs = search rules
+is_empty_requires : tie.Need-is-empty-requires
+is_empty_requires c κs = search rules
 
-is-low-requires : tie.Need-is-low-requires
-is-low-requires c κs = search rules
+is_low_requires : tie.Need-is-low-requires
+is_low_requires c κs = search rules
 
-is-high-requires : tie.Need-is-high-requires
-is-high-requires c κs = search rules
+is_high_requires : tie.Need-is-high-requires
+is_high_requires c κs = search rules
 
-is-full-requires : tie.Need-is-full-requires
-is-full-requires c κs = search rules
+is_full_requires : tie.Need-is-full-requires
+is_full_requires c κs = search rules
 
-number-of-requires : tie.Need-number-of-requires
-number-of-requires c κs = search rules
+number_of_requires : tie.Need-number-of-requires
+number_of_requires c κs = search rules
 
 returns : tie.Need-returns
-unfolding registers readFrom bufferBits
+unfolding registers read_from buffer_bits
 returns c =
     let full = c.before in
     let high = full.before in
@@ -48,19 +48,19 @@ returns c =
       closed.closed.ensures.told,
       ready.clock-ready.ensures.told,
       size.active-size.ensures.told,
-      bitsOf-4 size.before.before.args.b.size.code,
+      bits_of_4 size.before.before.args.b.size.code,
     )
 
-pub read-buffer-spec : {M : Type 1} → statement M
-read-buffer-spec =
+pub read_buffer_spec : {M : Type 1} → statement M
+read_buffer_spec =
     tie.close
     (tie.spec
-    active-size-requires
-    clock-ready-requires
-    closed-requires
-    is-empty-requires
-    is-low-requires
-    is-high-requires
-    is-full-requires
-    number-of-requires
+    active_size_requires
+    clock_ready_requires
+    closed_requires
+    is_empty_requires
+    is_low_requires
+    is_high_requires
+    is_full_requires
+    number_of_requires
     returns)

@@ -1,52 +1,52 @@
 -- The entries one after another, each bool as its flag.
 use native.Mathlib.Omega.{arith}
 use lib.ListN.{length-set}
-use Rattle.rows.proofs.Casts.{flag-cast}
+use Rattle.rows.proofs.Casts.{flag_cast}
 use borrow.Author.Rules.{rules}
 use Rattle.rows.proofs.writing.put_head.Statement.{statement}
 use Rattle.rows.proofs.writing.put_head.Tie as tie
 
-cast-row : tie.Need-overflow-cast-row
-cast-row c = search rules
+cast_row : tie.Need-overflow-cast-row
+cast_row c = search rules
 
-slice-write-row : tie.Need-slice-write-row
-slice-write-row c = omega arith
+slice_write_row : tie.Need-slice-write-row
+slice_write_row c = omega arith
 
-slice-write-row-2 : tie.Need-slice-write-row-2
-slice-write-row-2 c = simp length-set (omega arith)
+slice_write_row_2 : tie.Need-slice-write-row-2
+slice_write_row_2 c = simp length-set (omega arith)
 
-slice-write-row-3 : tie.Need-slice-write-row-3
-slice-write-row-3 c = simp length-set (omega arith)
+slice_write_row_3 : tie.Need-slice-write-row-3
+slice_write_row_3 c = simp length-set (omega arith)
 
-slice-write-row-4 : tie.Need-slice-write-row-4
-slice-write-row-4 c = simp length-set (omega arith)
+slice_write_row_4 : tie.Need-slice-write-row-4
+slice_write_row_4 c = simp length-set (omega arith)
 
-slice-write-row-5 : tie.Need-slice-write-row-5
-slice-write-row-5 c = simp length-set (omega arith)
+slice_write_row_5 : tie.Need-slice-write-row-5
+slice_write_row_5 c = simp length-set (omega arith)
 
-slice-write-row-6 : tie.Need-slice-write-row-6
-slice-write-row-6 c = simp length-set (omega arith)
+slice_write_row_6 : tie.Need-slice-write-row-6
+slice_write_row_6 c = simp length-set (omega arith)
 
-slice-write-row-7 : tie.Need-slice-write-row-7
-slice-write-row-7 c = simp length-set (omega arith)
+slice_write_row_7 : tie.Need-slice-write-row-7
+slice_write_row_7 c = simp length-set (omega arith)
 
 same_length : tie.Need-same-length
 same_length c = simp length-set (omega arith)
 
 returns : tie.Need-returns
-returns c = simp flag-cast
+returns c = simp flag_cast
 
-pub put-head-spec : {M : Type 1} → statement M
-put-head-spec =
+pub put_head_spec : {M : Type 1} → statement M
+put_head_spec =
     tie.close
     (tie.spec
-    cast-row
-    slice-write-row
-    slice-write-row-2
-    slice-write-row-3
-    slice-write-row-4
-    slice-write-row-5
-    slice-write-row-6
-    slice-write-row-7
+    cast_row
+    slice_write_row
+    slice_write_row_2
+    slice_write_row_3
+    slice_write_row_4
+    slice_write_row_5
+    slice_write_row_6
+    slice_write_row_7
     same_length
     returns)

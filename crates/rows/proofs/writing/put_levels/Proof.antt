@@ -5,73 +5,73 @@ use native.Mathlib.Omega.{arith}
 use borrow.Author.Rules.{rules}
 use lib.ListN.{length}
 use Rattle.rows.specs.Places as places
-use Rattle.rows.proofs.Stores.{Stores, stored-none, stored-length, stored_next, stored-all}
+use Rattle.rows.proofs.Stores.{Stores, stored_none, stored_length, stored_next, stored_all}
 use Rattle.rows.proofs.writing.put_levels.Statement.{statement}
 use Rattle.rows.proofs.writing.put_levels.Tie as tie
 
-abbrev invariant-loop : tie.invariant-loop
-invariant-loop row₀ levels i₀ row i = Stores row₀ places.levels levels i row
+abbrev invariant_loop : tie.invariant_loop
+invariant_loop row₀ levels i₀ row i = Stores row₀ places.levels levels i row
 
-abbrev decreases-loop : tie.decreases-loop
-decreases-loop row₀ levels i₀ row i = places.levelCount - i
+abbrev decreases_loop : tie.decreases_loop
+decreases_loop row₀ levels i₀ row i = places.level_count - i
 
-twenty : (c : tie.Start invariant-loop decreases-loop) → length c.args.o.levels ≡ places.levelCount
+twenty : (c : tie.Start invariant_loop decreases_loop) → length c.args.o.levels ≡ places.level_count
 twenty c = search rules
 
-loop-holds : tie.Need-loop-init invariant-loop decreases-loop
-loop-holds c = stored-none _ _ _ (omega (arith, twenty c.before.before))
+loop_holds : tie.Need-loop-init invariant_loop decreases_loop
+loop_holds c = stored_none _ _ _ (omega (arith, twenty c.before.before))
 
-mul_wide : tie.Need-overflow-mul-wide invariant-loop decreases-loop
+mul_wide : tie.Need-overflow-mul-wide invariant_loop decreases_loop
 mul_wide c = omega arith
 
-array-read-wide : tie.Need-array-read-wide invariant-loop decreases-loop
-array-read-wide c = omega arith
+array_read_wide : tie.Need-array-read-wide invariant_loop decreases_loop
+array_read_wide c = omega arith
 
-wide-requires : tie.Need-wide-requires invariant-loop decreases-loop
-wide-requires c κs = tt
+wide_requires : tie.Need-wide-requires invariant_loop decreases_loop
+wide_requires c κs = tt
 
-add_row : tie.Need-overflow-add-row invariant-loop decreases-loop
+add_row : tie.Need-overflow-add-row invariant_loop decreases_loop
 add_row c = omega arith
 
-mul-row : tie.Need-overflow-mul-row invariant-loop decreases-loop
-mul-row c = omega arith
+mul_row : tie.Need-overflow-mul-row invariant_loop decreases_loop
+mul_row c = omega arith
 
-slice-write-row : tie.Need-slice-write-row invariant-loop decreases-loop
-slice-write-row c = omega (arith, stored-length c.before.before.loop.invariant)
+slice_write_row : tie.Need-slice-write-row invariant_loop decreases_loop
+slice_write_row c = omega (arith, stored_length c.before.before.loop.invariant)
 
-add-i : tie.Need-overflow-add-i invariant-loop decreases-loop
-add-i c = omega arith
+add_i : tie.Need-overflow-add-i invariant_loop decreases_loop
+add_i c = omega arith
 
-loop-less : tie.Need-loop-smaller invariant-loop decreases-loop
-loop-less c = omega arith
+loop_less : tie.Need-loop-smaller invariant_loop decreases_loop
+loop_less c = omega arith
 
-loop-again : tie.Need-loop-preserved invariant-loop decreases-loop
-loop-again c =
+loop_again : tie.Need-loop-preserved invariant_loop decreases_loop
+loop_again c =
     let at-loop = c.before.before in
     let long = twenty at-loop.before.before.before in
     stored_next at-loop.loop.invariant (omega arith) _ c.wide.ensures
 
-same_length : tie.Need-same-length invariant-loop decreases-loop
-same_length c = stored-length c.before.loop.invariant
+same_length : tie.Need-same-length invariant_loop decreases_loop
+same_length c = stored_length c.before.loop.invariant
 
-returns : tie.Need-returns invariant-loop decreases-loop
-returns c = let long = twenty c.before.before.before.before in (long, stored-all c.before.loop.invariant (omega arith))
+returns : tie.Need-returns invariant_loop decreases_loop
+returns c = let long = twenty c.before.before.before.before in (long, stored_all c.before.loop.invariant (omega arith))
 
-pub put-levels-spec : {M : Type 1} → statement M
-put-levels-spec =
+pub put_levels_spec : {M : Type 1} → statement M
+put_levels_spec =
     tie.close
     (tie.spec
-    invariant-loop
-    decreases-loop
-    loop-holds
+    invariant_loop
+    decreases_loop
+    loop_holds
     mul_wide
-    array-read-wide
-    wide-requires
+    array_read_wide
+    wide_requires
     add_row
-    mul-row
-    slice-write-row
-    add-i
-    loop-less
-    loop-again
+    mul_row
+    slice_write_row
+    add_i
+    loop_less
+    loop_again
     same_length
     returns)

@@ -1,35 +1,35 @@
--- The parts' stores in order are the stores of `boardRow b` from the first entry on: over the whole length they leave nothing else.
+-- The parts' stores in order are the stores of `board_row b` from the first entry on: over the whole length they leave nothing else.
 use mathlib.Core.Path.{sym, ◌∙◌}
-use Rattle.rows.specs.Writing.{boardRow}
-use Rattle.rows.proofs.Stores.{sets-whole}
-use Rattle.rows.proofs.Rows.{row-length}
+use Rattle.rows.specs.Writing.{board_row}
+use Rattle.rows.proofs.Stores.{sets_whole}
+use Rattle.rows.proofs.Rows.{row_length}
 use borrow.Author.Rules.{rules}
 use Rattle.rows.proofs.writing.put_whole.Statement.{statement}
 use Rattle.rows.proofs.writing.put_whole.Tie as tie
 
-put-head-requires : tie.Need-put-head-requires
-put-head-requires c κs = search rules
+put_head_requires : tie.Need-put-head-requires
+put_head_requires c κs = search rules
 
-put-control-requires : tie.Need-put-control-requires
-put-control-requires c κs = search rules
+put_control_requires : tie.Need-put-control-requires
+put_control_requires c κs = search rules
 
-put-modes-requires : tie.Need-put-modes-requires
-put-modes-requires c κs = search rules
+put_modes_requires : tie.Need-put-modes-requires
+put_modes_requires c κs = search rules
 
-put-clock-requires : tie.Need-put-clock-requires
-put-clock-requires c κs = search rules
+put_clock_requires : tie.Need-put-clock-requires
+put_clock_requires c κs = search rules
 
-put-ring-requires : tie.Need-put-ring-requires
-put-ring-requires c κs = search rules
+put_ring_requires : tie.Need-put-ring-requires
+put_ring_requires c κs = search rules
 
-put-levels-requires : tie.Need-put-levels-requires
-put-levels-requires c κs = search rules
+put_levels_requires : tie.Need-put-levels-requires
+put_levels_requires c κs = search rules
 
 same_length : tie.Need-same-length
 same_length c = search rules
 
 returns : tie.Need-returns
-unfolding boardRow
+unfolding board_row
 returns c =
     let levels = c.before.before in
     let ring = levels.before.before.before.before in
@@ -46,17 +46,17 @@ returns c =
       control.put-control.ensures,
       head.put-head.ensures,
     )
-    (sets-whole z.args.row.now (boardRow z.args.b) (row-length z.args.b levels.put-levels.ensures.0 ∙ sym z.requires))
+    (sets_whole z.args.row.now (board_row z.args.b) (row_length z.args.b levels.put-levels.ensures.0 ∙ sym z.requires))
 
-pub put-whole-spec : {M : Type 1} → statement M
-put-whole-spec =
+pub put_whole_spec : {M : Type 1} → statement M
+put_whole_spec =
     tie.close
     (tie.spec
-    put-head-requires
-    put-control-requires
-    put-modes-requires
-    put-clock-requires
-    put-ring-requires
-    put-levels-requires
+    put_head_requires
+    put_control_requires
+    put_modes_requires
+    put_clock_requires
+    put_ring_requires
+    put_levels_requires
     same_length
     returns)

@@ -13,27 +13,27 @@ use Rattle.session.proofs.common.load_stands.Tie as tie
 returns : tie.Need-returns
 returns c h = absurd (false≢true h)
 
-word-at-requires : tie.Need-word-at-requires
-word-at-requires c κs = omega (arith, c.if1.false, (c.before.before.requires (omega (arith, c.if1.false))).1)
+word_at_requires : tie.Need-word-at-requires
+word_at_requires c κs = omega (arith, c.if1.false, (c.before.before.requires (omega (arith, c.if1.false))).1)
 
-add-result : tie.Need-overflow-add-result
-add-result c = search (rules, (c.before.before.before.requires (omega (arith, c.before.if1.false))).1)
+add_result : tie.Need-overflow-add-result
+add_result c = search (rules, (c.before.before.before.requires (omega (arith, c.before.if1.false))).1)
 
-shared-slice-read-result : tie.Need-shared-slice-read-result
-shared-slice-read-result c =
+shared_slice_read_result : tie.Need-shared-slice-read-result
+shared_slice_read_result c =
     let z = c.before.before in
     omega (arith, z.if1.false, (z.before.before.requires (omega (arith, z.if1.false))).1)
 
-add-result-2 : tie.Need-overflow-add-result-2
-add-result-2 c = search (rules, (c.before.before.before.before.requires (omega (arith, c.before.before.if1.false))).1)
+add_result_2 : tie.Need-overflow-add-result-2
+add_result_2 c = search (rules, (c.before.before.before.before.requires (omega (arith, c.before.before.if1.false))).1)
 
-shared-slice-read-result-2 : tie.Need-shared-slice-read-result-2
-shared-slice-read-result-2 c =
+shared_slice_read_result_2 : tie.Need-shared-slice-read-result-2
+shared_slice_read_result_2 c =
     let z = c.before.before.before in
     omega (arith, z.if1.false, (z.before.before.requires (omega (arith, z.if1.false))).1)
 
-returns-2 : tie.Need-returns-2
-returns-2 c h =
+returns_2 : tie.Need-returns-2
+returns_2 c h =
     let w = c.before.before.word_at in
     let a = c.before.before.before.before.before.args in
     let n = c.before.before.before.before.before.requires (omega (arith, c.before.before.before.if1.false)) in
@@ -46,14 +46,14 @@ returns-2 c h =
       eqb-true _ _ u.1,
     )
 
-pub load-stands-spec : {M : Type 1} → statement M
-load-stands-spec =
+pub load_stands_spec : {M : Type 1} → statement M
+load_stands_spec =
     tie.close
     (tie.spec
     returns
-    word-at-requires
-    add-result
-    shared-slice-read-result
-    add-result-2
-    shared-slice-read-result-2
-    returns-2)
+    word_at_requires
+    add_result
+    shared_slice_read_result
+    add_result_2
+    shared_slice_read_result_2
+    returns_2)

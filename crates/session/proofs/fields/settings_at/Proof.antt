@@ -3,32 +3,32 @@ use borrow.Author.Rules.{rules}
 use Rattle.session.proofs.fields.settings_at.Statement.{statement}
 use Rattle.session.proofs.fields.settings_at.Tie as tie
 
-byte-at-requires : tie.Need-byte-at-requires
-byte-at-requires c κs = omega (arith, c.before.requires)
+byte_at_requires : tie.Need-byte-at-requires
+byte_at_requires c κs = omega (arith, c.before.requires)
 
-add-byte-at : tie.Need-overflow-add-byte-at
-add-byte-at c = search rules
+add_byte_at : tie.Need-overflow-add-byte-at
+add_byte_at c = search rules
 
-byte-at-requires-2 : tie.Need-byte-at-requires-2
-byte-at-requires-2 c κs = omega (arith, c.before.before.requires)
+byte_at_requires_2 : tie.Need-byte-at-requires-2
+byte_at_requires_2 c κs = omega (arith, c.before.before.requires)
 
-add-byte-at-2 : tie.Need-overflow-add-byte-at-2
-add-byte-at-2 c = search rules
+add_byte_at_2 : tie.Need-overflow-add-byte-at-2
+add_byte_at_2 c = search rules
 
-byte-at-requires-3 : tie.Need-byte-at-requires-3
-byte-at-requires-3 c κs = omega (arith, c.before.before.before.requires)
+byte_at_requires_3 : tie.Need-byte-at-requires-3
+byte_at_requires_3 c κs = omega (arith, c.before.before.before.requires)
 
-add-byte-at-3 : tie.Need-overflow-add-byte-at-3
-add-byte-at-3 c = search rules
+add_byte_at_3 : tie.Need-overflow-add-byte-at-3
+add_byte_at_3 c = search rules
 
-byte-at-requires-4 : tie.Need-byte-at-requires-4
-byte-at-requires-4 c κs = omega (arith, c.before.before.before.before.requires)
+byte_at_requires_4 : tie.Need-byte-at-requires-4
+byte_at_requires_4 c κs = omega (arith, c.before.before.before.before.requires)
 
-add-word-at : tie.Need-overflow-add-word-at
-add-word-at c = search rules
+add_word_at : tie.Need-overflow-add-word-at
+add_word_at c = search rules
 
-word-at-requires : tie.Need-word-at-requires
-word-at-requires c κs = omega (arith, c.before.before.before.before.before.requires)
+word_at_requires : tie.Need-word-at-requires
+word_at_requires c κs = omega (arith, c.before.before.before.before.before.requires)
 
 returns : tie.Need-returns
 returns c =
@@ -40,17 +40,17 @@ returns c =
       firmware = c.word_at.ensures.0 i;
     }
 
-pub settings-at-spec : {M : Type 1} → statement M
-settings-at-spec =
+pub settings_at_spec : {M : Type 1} → statement M
+settings_at_spec =
     tie.close
     (tie.spec
-    byte-at-requires
-    add-byte-at
-    byte-at-requires-2
-    add-byte-at-2
-    byte-at-requires-3
-    add-byte-at-3
-    byte-at-requires-4
-    add-word-at
-    word-at-requires
+    byte_at_requires
+    add_byte_at
+    byte_at_requires_2
+    add_byte_at_2
+    byte_at_requires_3
+    add_byte_at_3
+    byte_at_requires_4
+    add_word_at
+    word_at_requires
     returns)

@@ -3,54 +3,54 @@ use mathlib.Core.Path.{sym, ◌∙◌}
 use Prim.Native.Nat.{◌-◌}
 use borrow.Author.Rules.{rules}
 use lib.ListN.{length}
-use Rattle.run.proofs.Ways.{way-ends}
-use Rattle.sizes.proofs.Ends.{Reading, reading-start, reading-on, reading-over}
+use Rattle.run.proofs.Ways.{way_ends}
+use Rattle.sizes.proofs.Ends.{Reading, reading_start, reading_on, reading_over}
 use Rattle.sizes.proofs.replay.file_end.Statement.{statement}
 use Rattle.sizes.proofs.replay.file_end.Tie as tie
 
-abbrev invariant-loop : tie.invariant-loop
-invariant-loop s c₀ c = Reading s c
+abbrev invariant_loop : tie.invariant_loop
+invariant_loop s c₀ c = Reading s c
 
-abbrev decreases-loop : tie.decreases-loop
-decreases-loop s c₀ c = length s - c.place
+abbrev decreases_loop : tie.decreases_loop
+decreases_loop s c₀ c = length s - c.place
 
-loop-holds : tie.Need-loop-init invariant-loop decreases-loop
-loop-holds c = reading-start _
+loop_holds : tie.Need-loop-init invariant_loop decreases_loop
+loop_holds c = reading_start _
 
-next-requires : tie.Need-next-requires invariant-loop decreases-loop
-next-requires c κs = tt
+next_requires : tie.Need-next-requires invariant_loop decreases_loop
+next_requires c κs = tt
 
-enum-known-n : tie.Need-enum-known-n invariant-loop decreases-loop
-enum-known-n c = search rules
+enum_known_n : tie.Need-enum-known-n invariant_loop decreases_loop
+enum_known_n c = search rules
 
-loop-less : tie.Need-loop-smaller invariant-loop decreases-loop
-loop-less c =
+loop_less : tie.Need-loop-smaller invariant_loop decreases_loop
+loop_less c =
     let z = c.before.before.before in
-    way-ends z.before.before.before.args.s.now z.before.loop.c _ _ (sym z.next.ensures.told ∙ c.before.n.given.1)
+    way_ends z.before.before.before.args.s.now z.before.loop.c _ _ (sym z.next.ensures.told ∙ c.before.n.given.1)
 
-loop-again : tie.Need-loop-preserved invariant-loop decreases-loop
-loop-again c =
+loop_again : tie.Need-loop-preserved invariant_loop decreases_loop
+loop_again c =
     let z = c.before.before.before in
-    reading-on _ _ _ _ z.before.loop.invariant (sym z.next.ensures.told ∙ c.before.n.given.1)
+    reading_on _ _ _ _ z.before.loop.invariant (sym z.next.ensures.told ∙ c.before.n.given.1)
 
-enum-known-n-2 : tie.Need-enum-known-n-2 invariant-loop decreases-loop
-enum-known-n-2 c = search rules
+enum_known_n_2 : tie.Need-enum-known-n-2 invariant_loop decreases_loop
+enum_known_n_2 c = search rules
 
-returns : tie.Need-returns invariant-loop decreases-loop
+returns : tie.Need-returns invariant_loop decreases_loop
 returns c =
     let z = c.before.before.before in
-    reading-over _ _ _ z.before.loop.invariant (sym z.next.ensures.told ∙ c.before.n2.given.1)
+    reading_over _ _ _ z.before.loop.invariant (sym z.next.ensures.told ∙ c.before.n2.given.1)
 
-pub file-end-spec : {M : Type 1} → statement M
-file-end-spec =
+pub file_end_spec : {M : Type 1} → statement M
+file_end_spec =
     tie.close
     (tie.spec
-    invariant-loop
-    decreases-loop
-    loop-holds
-    next-requires
-    enum-known-n
-    loop-less
-    loop-again
-    enum-known-n-2
+    invariant_loop
+    decreases_loop
+    loop_holds
+    next_requires
+    enum_known_n
+    loop_less
+    loop_again
+    enum_known_n_2
     returns)

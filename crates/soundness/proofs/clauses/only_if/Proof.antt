@@ -6,9 +6,9 @@ returns : tie.Need-returns
 unfolding only_if
 returns c = rw c.if1.true
 
-returns-2 : tie.Need-returns-2
+returns_2 : tie.Need-returns-2
 unfolding only_if
-returns-2 c = rw c.if1.false
+returns_2 c = rw c.if1.false
 
-pub only-if-spec : {M : Type 1} → statement M
-only-if-spec = tie.close (tie.spec returns returns-2)
+pub only_if_spec : {M : Type 1} → statement M
+only_if_spec = tie.close (tie.spec returns returns_2)

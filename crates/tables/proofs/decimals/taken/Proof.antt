@@ -4,30 +4,30 @@ use borrow.Author.Rules.{rules}
 use Rattle.tables.proofs.decimals.taken.Statement.{statement}
 use Rattle.tables.proofs.decimals.taken.Tie as tie
 
-abbrev invariant-loop : tie.invariant-loop
-invariant-loop x ones₀ rest₀ ones rest = ones ≤ 10
+abbrev invariant_loop : tie.invariant_loop
+invariant_loop x ones₀ rest₀ ones rest = ones ≤ 10
 
-abbrev decreases-loop : tie.decreases-loop
-decreases-loop x ones₀ rest₀ ones rest = 10 - ones
+abbrev decreases_loop : tie.decreases_loop
+decreases_loop x ones₀ rest₀ ones rest = 10 - ones
 
-loop-holds : tie.Need-loop-init invariant-loop decreases-loop
-loop-holds c = search rules
+loop_holds : tie.Need-loop-init invariant_loop decreases_loop
+loop_holds c = search rules
 
-add-ones : tie.Need-overflow-add-ones invariant-loop decreases-loop
-add-ones c = search rules
+add_ones : tie.Need-overflow-add-ones invariant_loop decreases_loop
+add_ones c = search rules
 
-loop-less : tie.Need-loop-smaller invariant-loop decreases-loop
-loop-less c = search rules
+loop_less : tie.Need-loop-smaller invariant_loop decreases_loop
+loop_less c = search rules
 
-loop-again : tie.Need-loop-preserved invariant-loop decreases-loop
-loop-again c = search rules
+loop_again : tie.Need-loop-preserved invariant_loop decreases_loop
+loop_again c = search rules
 
-returns : tie.Need-returns invariant-loop decreases-loop
+returns : tie.Need-returns invariant_loop decreases_loop
 returns c = search rules
 
-returns-2 : tie.Need-returns-2 invariant-loop decreases-loop
-returns-2 c = search rules
+returns_2 : tie.Need-returns-2 invariant_loop decreases_loop
+returns_2 c = search rules
 
-pub taken-spec : {M : Type 1} → statement M
-taken-spec =
-    tie.close (tie.spec invariant-loop decreases-loop loop-holds add-ones loop-less loop-again returns returns-2)
+pub taken_spec : {M : Type 1} → statement M
+taken_spec =
+    tie.close (tie.spec invariant_loop decreases_loop loop_holds add_ones loop_less loop_again returns returns_2)

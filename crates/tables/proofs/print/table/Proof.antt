@@ -4,67 +4,67 @@ use borrow.Author.Rules.{rules}
 use Rattle.tables.proofs.print.table.Statement.{statement}
 use Rattle.tables.proofs.print.table.Tie as tie
 
-abbrev invariant-loop : tie.invariant-loop
-invariant-loop refusal channels k₀ k = k ≤ 20
+abbrev invariant_loop : tie.invariant_loop
+invariant_loop refusal channels k₀ k = k ≤ 20
 
-abbrev decreases-loop : tie.decreases-loop
-decreases-loop refusal channels k₀ k = 20 - k
+abbrev decreases_loop : tie.decreases_loop
+decreases_loop refusal channels k₀ k = 20 - k
 
-slice-aggregate-write-all : tie.Need-slice-aggregate-write-all invariant-loop decreases-loop
-slice-aggregate-write-all c = search rules
+slice_aggregate_write_all : tie.Need-slice-aggregate-write-all invariant_loop decreases_loop
+slice_aggregate_write_all c = search rules
 
-write-all-requires : tie.Need-write-all-requires invariant-loop decreases-loop
-write-all-requires c κs = search rules
+write_all_requires : tie.Need-write-all-requires invariant_loop decreases_loop
+write_all_requires c κs = search rules
 
-print-decimal-requires : tie.Need-print-decimal-requires invariant-loop decreases-loop
-print-decimal-requires c κs = search rules
+print_decimal_requires : tie.Need-print-decimal-requires invariant_loop decreases_loop
+print_decimal_requires c κs = search rules
 
-slice-aggregate-write-all-2 : tie.Need-slice-aggregate-write-all-2 invariant-loop decreases-loop
-slice-aggregate-write-all-2 c = search rules
+slice_aggregate_write_all_2 : tie.Need-slice-aggregate-write-all-2 invariant_loop decreases_loop
+slice_aggregate_write_all_2 c = search rules
 
-write-all-requires-2 : tie.Need-write-all-requires-2 invariant-loop decreases-loop
-write-all-requires-2 c κs = search rules
+write_all_requires_2 : tie.Need-write-all-requires-2 invariant_loop decreases_loop
+write_all_requires_2 c κs = search rules
 
-loop-holds : tie.Need-loop-init invariant-loop decreases-loop
-loop-holds c = search rules
+loop_holds : tie.Need-loop-init invariant_loop decreases_loop
+loop_holds c = search rules
 
-mul-channel : tie.Need-overflow-mul-channel invariant-loop decreases-loop
-mul-channel c = search rules
+mul_channel : tie.Need-overflow-mul-channel invariant_loop decreases_loop
+mul_channel c = search rules
 
-array-copy-out-channel : tie.Need-array-copy-out-channel invariant-loop decreases-loop
-array-copy-out-channel c = search rules
+array_copy_out_channel : tie.Need-array-copy-out-channel invariant_loop decreases_loop
+array_copy_out_channel c = search rules
 
-channel-requires : tie.Need-channel-requires invariant-loop decreases-loop
-channel-requires c κs = search rules
+channel_requires : tie.Need-channel-requires invariant_loop decreases_loop
+channel_requires c κs = search rules
 
-add-k : tie.Need-overflow-add-k invariant-loop decreases-loop
-add-k c = search rules
+add_k : tie.Need-overflow-add-k invariant_loop decreases_loop
+add_k c = search rules
 
-loop-less : tie.Need-loop-smaller invariant-loop decreases-loop
-loop-less c = search rules
+loop_less : tie.Need-loop-smaller invariant_loop decreases_loop
+loop_less c = search rules
 
-loop-again : tie.Need-loop-preserved invariant-loop decreases-loop
-loop-again c = search rules
+loop_again : tie.Need-loop-preserved invariant_loop decreases_loop
+loop_again c = search rules
 
-returns : tie.Need-returns invariant-loop decreases-loop
+returns : tie.Need-returns invariant_loop decreases_loop
 returns c = search rules
 
-pub table-spec : {M : Type 1} → statement M
-table-spec =
+pub table_spec : {M : Type 1} → statement M
+table_spec =
     tie.close
     (tie.spec
-    invariant-loop
-    decreases-loop
-    slice-aggregate-write-all
-    write-all-requires
-    print-decimal-requires
-    slice-aggregate-write-all-2
-    write-all-requires-2
-    loop-holds
-    mul-channel
-    array-copy-out-channel
-    channel-requires
-    add-k
-    loop-less
-    loop-again
+    invariant_loop
+    decreases_loop
+    slice_aggregate_write_all
+    write_all_requires
+    print_decimal_requires
+    slice_aggregate_write_all_2
+    write_all_requires_2
+    loop_holds
+    mul_channel
+    array_copy_out_channel
+    channel_requires
+    add_k
+    loop_less
+    loop_again
     returns)

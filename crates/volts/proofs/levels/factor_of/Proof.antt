@@ -7,13 +7,13 @@ returns : tie.Need-returns
 unfolding factor
 returns c = rw c.match.keys1
 
-returns-2 : tie.Need-returns-2
+returns_2 : tie.Need-returns-2
 unfolding factor
-returns-2 c = rw c.match.keys2
+returns_2 c = rw c.match.keys2
 
-returns-3 : tie.Need-returns-3
+returns_3 : tie.Need-returns-3
 unfolding factor
-returns-3 c = rw (ne_eqb _ _ c.match.rest.0.1, ne_eqb _ _ c.match.rest.1)
+returns_3 c = rw (ne_eqb _ _ c.match.rest.0.1, ne_eqb _ _ c.match.rest.1)
 
-pub factor-of-spec : {M : Type 1} → statement M
-factor-of-spec = tie.close (tie.spec returns returns-2 returns-3)
+pub factor_of_spec : {M : Type 1} → statement M
+factor_of_spec = tie.close (tie.spec returns returns_2 returns_3)

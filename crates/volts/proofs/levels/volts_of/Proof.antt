@@ -4,7 +4,7 @@ use native.Mathlib.Omega.{arith}
 use borrow.Author.Rules.{rules}
 use borrow.Author.Tests.{lt-ltb, le-ltb}
 use lib.Ieee.{neg}
-use Rattle.volt_rules.specs.Volts.{factor, voltsOf}
+use Rattle.volt_rules.specs.Volts.{factor, volts_of}
 use Rattle.volt_rules.proofs.Exact.{size_small}
 use Rattle.volts.proofs.levels.volts_of.Statement.{statement}
 use Rattle.volts.proofs.levels.volts_of.Tie as tie
@@ -13,42 +13,42 @@ use Rattle.volts.proofs.levels.volts_of.Tie as tie
 small : (n k range : ℕ) → n ≤ 32768 → k ≡ factor range → n * k ≤ 655360
 small n k range h e = subst (λ (x : ℕ). n * x ≤ 655360) (sym e) (size_small n range h)
 
-factor-of-requires : tie.Need-factor-of-requires
-factor-of-requires c κs = tt
+factor_of_requires : tie.Need-factor-of-requires
+factor_of_requires c κs = tt
 
-sub-share-of : tie.Need-overflow-sub-share-of
-sub-share-of c = search rules
+sub_share_of : tie.Need-overflow-sub-share-of
+sub_share_of c = search rules
 
-mul-share-of : tie.Need-overflow-mul-share-of
-mul-share-of c = omega (arith, small (32768 - c.before.before.args.level) _ _ (omega arith) c.before.factor-of.ensures)
+mul_share_of : tie.Need-overflow-mul-share-of
+mul_share_of c = omega (arith, small (32768 - c.before.before.args.level) _ _ (omega arith) c.before.factor_of.ensures)
 
-share-of-requires : tie.Need-share-of-requires
-share-of-requires c κs = omega (arith, small (32768 - c.before.before.args.level) _ _ (omega arith) c.before.factor-of.ensures)
+share_of_requires : tie.Need-share-of-requires
+share_of_requires c κs = omega (arith, small (32768 - c.before.before.args.level) _ _ (omega arith) c.before.factor_of.ensures)
 
 returns : tie.Need-returns
-unfolding voltsOf
+unfolding volts_of
 returns c =
-    rw (lt-ltb _ _ c.before.if1.true, sym c.before.before.factor-of.ensures) (ap neg c.share-of.ensures)
+    rw (lt-ltb _ _ c.before.if1.true, sym c.before.before.factor_of.ensures) (ap neg c.share-of.ensures)
 
-mul-share-of-2 : tie.Need-overflow-mul-share-of-2
-mul-share-of-2 c = omega (arith, small (c.before.before.args.level - 32768) _ _ (omega arith) c.before.factor-of.ensures)
+mul_share_of_2 : tie.Need-overflow-mul-share-of-2
+mul_share_of_2 c = omega (arith, small (c.before.before.args.level - 32768) _ _ (omega arith) c.before.factor_of.ensures)
 
-share-of-requires-2 : tie.Need-share-of-requires-2
-share-of-requires-2 c κs = omega (arith, small (c.before.before.args.level - 32768) _ _ (omega arith) c.before.factor-of.ensures)
+share_of_requires_2 : tie.Need-share-of-requires-2
+share_of_requires_2 c κs = omega (arith, small (c.before.before.args.level - 32768) _ _ (omega arith) c.before.factor_of.ensures)
 
-returns-2 : tie.Need-returns-2
-unfolding voltsOf
-returns-2 c = rw (le-ltb _ _ c.before.if1.false, sym c.before.before.factor-of.ensures) c.share-of2.ensures
+returns_2 : tie.Need-returns-2
+unfolding volts_of
+returns_2 c = rw (le-ltb _ _ c.before.if1.false, sym c.before.before.factor_of.ensures) c.share-of2.ensures
 
-pub volts-of-spec : {M : Type 1} → statement M
-volts-of-spec =
+pub volts_of_spec : {M : Type 1} → statement M
+volts_of_spec =
     tie.close
     (tie.spec
-    factor-of-requires
-    sub-share-of
-    mul-share-of
-    share-of-requires
+    factor_of_requires
+    sub_share_of
+    mul_share_of
+    share_of_requires
     returns
-    mul-share-of-2
-    share-of-requires-2
-    returns-2)
+    mul_share_of_2
+    share_of_requires_2
+    returns_2)

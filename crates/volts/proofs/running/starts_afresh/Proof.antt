@@ -1,37 +1,37 @@
 use borrow.Author.Rules.{rules}
-use Rattle.volt_rules.specs.Counting.{isPowerUp}
+use Rattle.volt_rules.specs.Counting.{is_power_up}
 use Rattle.volts.proofs.running.starts_afresh.Statement.{statement}
 use Rattle.volts.proofs.running.starts_afresh.Tie as tie
 
 enum_told : tie.Need-enum-told
 enum_told c = search rules
 
-enum-told-2 : tie.Need-enum-told-2
-enum-told-2 c = search rules
+enum_told_2 : tie.Need-enum-told-2
+enum_told_2 c = search rules
 
-enum-told-3 : tie.Need-enum-told-3
-enum-told-3 c = search rules
+enum_told_3 : tie.Need-enum-told-3
+enum_told_3 c = search rules
 
-enum-told-4 : tie.Need-enum-told-4
-enum-told-4 c = search rules
+enum_told_4 : tie.Need-enum-told-4
+enum_told_4 c = search rules
 
 returns : tie.Need-returns
-unfolding isPowerUp
+unfolding is_power_up
 returns c = rw c.enum_told.given.1
 
-returns-2 : tie.Need-returns-2
-unfolding isPowerUp
-returns-2 c = rw c.enum-told2.given.1
+returns_2 : tie.Need-returns-2
+unfolding is_power_up
+returns_2 c = rw c.enum-told2.given.1
 
-returns-3 : tie.Need-returns-3
-unfolding isPowerUp
-returns-3 c = rw c.enum-told3.given.1
+returns_3 : tie.Need-returns-3
+unfolding is_power_up
+returns_3 c = rw c.enum-told3.given.1
 
-returns-4 : tie.Need-returns-4
-unfolding isPowerUp
-returns-4 c = rw c.enum-told4.given.1
+returns_4 : tie.Need-returns-4
+unfolding is_power_up
+returns_4 c = rw c.enum-told4.given.1
 
-pub starts-afresh-spec : {M : Type 1} → statement M
-starts-afresh-spec =
+pub starts_afresh_spec : {M : Type 1} → statement M
+starts_afresh_spec =
     tie.close
-    (tie.spec enum_told enum-told-2 enum-told-3 enum-told-4 returns returns-2 returns-3 returns-4)
+    (tie.spec enum_told enum_told_2 enum_told_3 enum_told_4 returns returns_2 returns_3 returns_4)

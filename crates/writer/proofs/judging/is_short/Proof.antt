@@ -20,14 +20,14 @@ returns c =
     let a = c.before.args in
     sym (lt-ltb a.room (1 + 3 * a.n + a.fields) (omega arith))
 
-sub-result : tie.Need-overflow-sub-result
-sub-result c = search rules
+sub_result : tie.Need-overflow-sub-result
+sub_result c = search rules
 
-sub-result-2 : tie.Need-overflow-sub-result-2
-sub-result-2 c = search rules
+sub_result_2 : tie.Need-overflow-sub-result-2
+sub_result_2 c = search rules
 
-returns-2 : tie.Need-returns-2
-returns-2 c = asked _ _ _ c.if1.false
+returns_2 : tie.Need-returns-2
+returns_2 c = asked _ _ _ c.if1.false
 
-pub is-short-spec : {M : Type 1} → statement M
-is-short-spec = tie.close (tie.spec returns sub-result sub-result-2 returns-2)
+pub is_short_spec : {M : Type 1} → statement M
+is_short_spec = tie.close (tie.spec returns sub_result sub_result_2 returns_2)

@@ -2,18 +2,18 @@
 use native.Mathlib.Omega.{arith}
 use borrow.Author.Rules.{rules}
 use Rattle.file_rules.proofs.Joined.{renamed}
-use Rattle.writer.proofs.Marks.{last-load, other-load}
+use Rattle.writer.proofs.Marks.{last_load, other_load}
 use Rattle.writer.proofs.loads.put_load.Statement.{statement}
 use Rattle.writer.proofs.loads.put_load.Tie as tie
 
-add-if1 : tie.Need-overflow-add-if1
-add-if1 c = search rules
+add_if1 : tie.Need-overflow-add-if1
+add_if1 c = search rules
 
-add-put-write : tie.Need-overflow-add-put-write
-add-put-write c = search rules
+add_put_write : tie.Need-overflow-add-put-write
+add_put_write c = search rules
 
-put-write-requires : tie.Need-put-write-requires
-put-write-requires c κs = search rules
+put_write_requires : tie.Need-put-write-requires
+put_write_requires c κs = search rules
 
 same_length : tie.Need-same-length
 same_length c = search rules
@@ -22,29 +22,29 @@ returns : tie.Need-returns
 returns c =
     let test = c.before.before.before.before in
     let a = test.before.before.args in
-    renamed (last-load a.end a.at a.value (omega (arith, test.if1.true))) c.before.before.put-write.ensures
+    renamed (last_load a.end a.at a.value (omega (arith, test.if1.true))) c.before.before.put-write.ensures
 
-put-write-requires-2 : tie.Need-put-write-requires-2
-put-write-requires-2 c κs = search rules
+put_write_requires_2 : tie.Need-put-write-requires-2
+put_write_requires_2 c κs = search rules
 
-same-length-2 : tie.Need-same-length-2
-same-length-2 c = search rules
+same_length_2 : tie.Need-same-length-2
+same_length_2 c = search rules
 
-returns-2 : tie.Need-returns-2
-returns-2 c =
+returns_2 : tie.Need-returns-2
+returns_2 c =
     let test = c.before.before.before.before in
     let a = test.before.before.args in
-    renamed (other-load a.end a.at a.value (λ e. omega (arith, test.if1.false, e))) c.before.before.put-write2.ensures
+    renamed (other_load a.end a.at a.value (λ e. omega (arith, test.if1.false, e))) c.before.before.put-write2.ensures
 
-pub put-load-spec : {M : Type 1} → statement M
-put-load-spec =
+pub put_load_spec : {M : Type 1} → statement M
+put_load_spec =
     tie.close
     (tie.spec
-    add-if1
-    add-put-write
-    put-write-requires
+    add_if1
+    add_put_write
+    put_write_requires
     same_length
     returns
-    put-write-requires-2
-    same-length-2
-    returns-2)
+    put_write_requires_2
+    same_length_2
+    returns_2)

@@ -4,11 +4,11 @@ use Rattle.file_rules.proofs.Joined.{then}
 use Rattle.writer.proofs.loads.put_mask.Statement.{statement}
 use Rattle.writer.proofs.loads.put_mask.Tie as tie
 
-put-one-requires : tie.Need-put-one-requires
-put-one-requires c κs = search rules
+put_one_requires : tie.Need-put-one-requires
+put_one_requires c κs = search rules
 
-put-write-requires : tie.Need-put-write-requires
-put-write-requires c κs = search rules
+put_write_requires : tie.Need-put-write-requires
+put_write_requires c κs = search rules
 
 same_length : tie.Need-same-length
 same_length c = search rules
@@ -16,5 +16,5 @@ same_length c = search rules
 returns : tie.Need-returns
 returns c = then c.before.before.before.before.before.before.put_one.ensures c.before.before.put-write.ensures
 
-pub put-mask-spec : {M : Type 1} → statement M
-put-mask-spec = tie.close (tie.spec put-one-requires put-write-requires same_length returns)
+pub put_mask_spec : {M : Type 1} → statement M
+put_mask_spec = tie.close (tie.spec put_one_requires put_write_requires same_length returns)

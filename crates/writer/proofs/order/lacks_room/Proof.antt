@@ -19,8 +19,8 @@ returns c =
     let a = c.before.args in
     sym (lt-ltb a.room (1 + 8 * (1 + a.values)) (omega arith))
 
-returns-2 : tie.Need-returns-2
-returns-2 c = asked _ _ c.if1.false
+returns_2 : tie.Need-returns-2
+returns_2 c = asked _ _ c.if1.false
 
-pub lacks-room-spec : {M : Type 1} → statement M
-lacks-room-spec = tie.close (tie.spec returns returns-2)
+pub lacks_room_spec : {M : Type 1} → statement M
+lacks_room_spec = tie.close (tie.spec returns returns_2)

@@ -11,20 +11,20 @@ use Rattle.writer.proofs.order.values_of.Tie as tie
 many : (c : tie.Start) → c.args.last - c.args.first + 1 ≡ suc c.args.last - c.args.first
 many c = omega (arith, c.requires.0)
 
-sub-result : tie.Need-overflow-sub-result
-sub-result c = search rules
+sub_result : tie.Need-overflow-sub-result
+sub_result c = search rules
 
-add-result : tie.Need-overflow-add-result
-add-result c = omega arith
+add_result : tie.Need-overflow-add-result
+add_result c = omega arith
 
-cast-result : tie.Need-overflow-cast-result
-cast-result c = omega (arith, ones-le 32 c.args.mask (omega arith))
+cast_result : tie.Need-overflow-cast-result
+cast_result c = omega (arith, ones-le 32 c.args.mask (omega arith))
 
-mul-result : tie.Need-overflow-mul-result
-mul-result c = omega (arith, ap (λ (n : ℕ). n * ones c.args.mask) (many c), c.requires.2)
+mul_result : tie.Need-overflow-mul-result
+mul_result c = omega (arith, ap (λ (n : ℕ). n * ones c.args.mask) (many c), c.requires.2)
 
 returns : tie.Need-returns
 returns c = ap (λ (n : ℕ). n * ones c.args.mask) (many c)
 
-pub values-of-spec : {M : Type 1} → statement M
-values-of-spec = tie.close (tie.spec sub-result add-result cast-result mul-result returns)
+pub values_of_spec : {M : Type 1} → statement M
+values_of_spec = tie.close (tie.spec sub_result add_result cast_result mul_result returns)

@@ -4,11 +4,11 @@ use Rattle.file_rules.proofs.Joined.{then}
 use Rattle.writer.proofs.pieces.put_four.Statement.{statement}
 use Rattle.writer.proofs.pieces.put_four.Tie as tie
 
-put-two-requires : tie.Need-put-two-requires
-put-two-requires c κs = search rules
+put_two_requires : tie.Need-put-two-requires
+put_two_requires c κs = search rules
 
-put-two-requires-2 : tie.Need-put-two-requires-2
-put-two-requires-2 c κs = search rules
+put_two_requires_2 : tie.Need-put-two-requires-2
+put_two_requires_2 c κs = search rules
 
 same_length : tie.Need-same-length
 same_length c = search rules
@@ -16,5 +16,5 @@ same_length c = search rules
 returns : tie.Need-returns
 returns c = then c.before.before.before.before.before.before.put_two.ensures c.before.before.put-two2.ensures
 
-pub put-four-spec : {M : Type 1} → statement M
-put-four-spec = tie.close (tie.spec put-two-requires put-two-requires-2 same_length returns)
+pub put_four_spec : {M : Type 1} → statement M
+put_four_spec = tie.close (tie.spec put_two_requires put_two_requires_2 same_length returns)

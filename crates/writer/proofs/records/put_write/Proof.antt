@@ -11,15 +11,15 @@ use Rattle.file_rules.proofs.Joined.{then, renamed}
 use Rattle.writer.proofs.records.put_write.Statement.{statement}
 use Rattle.writer.proofs.records.put_write.Tie as tie
 
-write-record : (o v : ℕ) → o < 256 → (two (length_of 2) ++ (2 ∷ [])) ++ (o % 256 ∷ four v) ≡ bytes_of (write o v)
+write_record : (o v : ℕ) → o < 256 → (two (length_of 2) ++ (2 ∷ [])) ++ (o % 256 ∷ four v) ≡ bytes_of (write o v)
 unfolding length_of
-write-record o v h = λ i. two 6 ++ 2 ∷ mod-eq_of_lt h i ∷ four v
+write_record o v h = λ i. two 6 ++ 2 ∷ mod-eq_of_lt h i ∷ four v
 
-put-head-requires : tie.Need-put-head-requires
-put-head-requires c κs = search rules
+put_head_requires : tie.Need-put-head-requires
+put_head_requires c κs = search rules
 
-put-access-requires : tie.Need-put-access-requires
-put-access-requires c κs = search rules
+put_access_requires : tie.Need-put-access-requires
+put_access_requires c κs = search rules
 
 same_length : tie.Need-same-length
 same_length c = search rules
@@ -28,7 +28,7 @@ returns : tie.Need-returns
 returns c =
     let head = c.before.before.before.before.before.before in
     let start = head.before.before.before in
-    renamed (write-record _ _ start.requires.0) (then head.put-head.ensures c.before.before.put-access.ensures)
+    renamed (write_record _ _ start.requires.0) (then head.put-head.ensures c.before.before.put-access.ensures)
 
-pub put-write-spec : {M : Type 1} → statement M
-put-write-spec = tie.close (tie.spec put-head-requires put-access-requires same_length returns)
+pub put_write_spec : {M : Type 1} → statement M
+put_write_spec = tie.close (tie.spec put_head_requires put_access_requires same_length returns)

@@ -2,16 +2,16 @@
 use mathlib.Core.Path.{sym}
 use mathlib.Core.Bool.{◌&&◌}
 use lib.Dec.{ltb}
-use Rattle.rules.proofs.Choice.{and-true}
-use Rattle.file_rules.specs.Writing.{fitWidths}
+use Rattle.rules.proofs.Choice.{and_true}
+use Rattle.file_rules.specs.Writing.{fit_widths}
 use Rattle.writer.proofs.rows.are_settings.Statement.{statement}
 use Rattle.writer.proofs.rows.are_settings.Tie as tie
 
 returns : tie.Need-returns
-unfolding fitWidths
+unfolding fit_widths
 returns c =
     let a = c.args in
-    λ i. ltb a.a 256 && (ltb a.b 256 && (ltb a.c 256 && (ltb a.d 256 && sym (and-true (ltb a.e 65536)) i)))
+    λ i. ltb a.a 256 && (ltb a.b 256 && (ltb a.c 256 && (ltb a.d 256 && sym (and_true (ltb a.e 65536)) i)))
 
-pub are-settings-spec : {M : Type 1} → statement M
-are-settings-spec = tie.close (tie.spec returns)
+pub are_settings_spec : {M : Type 1} → statement M
+are_settings_spec = tie.close (tie.spec returns)

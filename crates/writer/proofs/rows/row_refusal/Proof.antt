@@ -10,11 +10,11 @@ use borrow.Kind.Array.{e_int, good_length}
 use borrow.Author.Rules.{rules}
 use borrow.Author.Tests.{eq-eqb, ne_eqb}
 use Rattle.rules.specs.Refusals.{first_of}
-use Rattle.rules.proofs.Choice.{cond-true, cond-false}
+use Rattle.rules.proofs.Choice.{cond_true, cond_false}
 use Rattle.file_rules.specs.File.{length_of}
 use Rattle.file_rules.specs.Row.{field}
-use Rattle.file_rules.specs.Writing.{widths, fitWidths, rowRefusal}
-use Rattle.file_rules.proofs.RowsGiven.{row-numbers}
+use Rattle.file_rules.specs.Writing.{widths, fit_widths, row_refusal}
+use Rattle.file_rules.proofs.RowsGiven.{row_numbers}
 use Rattle.writer.proofs.rows.row_refusal.Statement.{statement}
 use Rattle.writer.proofs.rows.row_refusal.Tie as tie
 
@@ -26,60 +26,60 @@ known c = ne_eqb _ 0 (λ z. c.if1.false (c.before.length-of.ensures.told ∙ z))
 row : tie.After-fits-widths → List ℕ
 row c = c.before.before.before.args.t1
 
-told : (c : tie.After-fits-widths) (t : Bool) → c.fits-widths.result ≡ t → fitWidths (drop 1 (row c)) (widths (field (row c) 0)) ≡ t
+told : (c : tie.After-fits-widths) (t : Bool) → c.fits-widths.result ≡ t → fit_widths (drop 1 (row c)) (widths (field (row c) 0)) ≡ t
 unfolding row
 told c t e =
     let l = good_length (e_int w32) 6 (row c) _ c.before.before.before.well-formed.0 in
-    ap (λ (x : List ℕ). fitWidths (drop 1 x) (widths (field (row c) 0))) (row-numbers (row c) l) ∙ sym c.fits-widths.ensures ∙ e
+    ap (λ (x : List ℕ). fit_widths (drop 1 x) (widths (field (row c) 0))) (row_numbers (row c) l) ∙ sym c.fits-widths.ensures ∙ e
 
-array-read-kind : tie.Need-array-read-kind
-array-read-kind c = search rules
+array_read_kind : tie.Need-array-read-kind
+array_read_kind c = search rules
 
-length-of-requires : tie.Need-length-of-requires
-length-of-requires c κs = search rules
+length_of_requires : tie.Need-length-of-requires
+length_of_requires c κs = search rules
 
 returns : tie.Need-returns
-unfolding rowRefusal first_of
-returns c = sym (cond-true _ _ _ (eq-eqb _ 0 (sym c.before.length-of.ensures.told ∙ c.if1.true)))
+unfolding row_refusal first_of
+returns c = sym (cond_true _ _ _ (eq-eqb _ 0 (sym c.before.length-of.ensures.told ∙ c.if1.true)))
 
-array-read-fits-widths : tie.Need-array-read-fits-widths
-array-read-fits-widths c = search rules
+array_read_fits_widths : tie.Need-array-read-fits-widths
+array_read_fits_widths c = search rules
 
-array-read-fits-widths-2 : tie.Need-array-read-fits-widths-2
-array-read-fits-widths-2 c = search rules
+array_read_fits_widths_2 : tie.Need-array-read-fits-widths-2
+array_read_fits_widths_2 c = search rules
 
-array-read-fits-widths-3 : tie.Need-array-read-fits-widths-3
-array-read-fits-widths-3 c = search rules
+array_read_fits_widths_3 : tie.Need-array-read-fits-widths-3
+array_read_fits_widths_3 c = search rules
 
-array-read-fits-widths-4 : tie.Need-array-read-fits-widths-4
-array-read-fits-widths-4 c = search rules
+array_read_fits_widths_4 : tie.Need-array-read-fits-widths-4
+array_read_fits_widths_4 c = search rules
 
-array-read-fits-widths-5 : tie.Need-array-read-fits-widths-5
-array-read-fits-widths-5 c = search rules
+array_read_fits_widths_5 : tie.Need-array-read-fits-widths-5
+array_read_fits_widths_5 c = search rules
 
-fits-widths-requires : tie.Need-fits-widths-requires
-fits-widths-requires c κs = search rules
+fits_widths_requires : tie.Need-fits-widths-requires
+fits_widths_requires c κs = search rules
 
-returns-2 : tie.Need-returns-2
-unfolding rowRefusal first_of row
-returns-2 c = sym (cond-false _ _ _ (known c.before.before) ∙ cond-false _ _ _ (ap not (told c.before _ c.if2.true)))
+returns_2 : tie.Need-returns-2
+unfolding row_refusal first_of row
+returns_2 c = sym (cond_false _ _ _ (known c.before.before) ∙ cond_false _ _ _ (ap not (told c.before _ c.if2.true)))
 
-returns-3 : tie.Need-returns-3
-unfolding rowRefusal first_of row
-returns-3 c = sym (cond-false _ _ _ (known c.before.before) ∙ cond-true _ _ _ (ap not (told c.before _ c.if2.false)))
+returns_3 : tie.Need-returns-3
+unfolding row_refusal first_of row
+returns_3 c = sym (cond_false _ _ _ (known c.before.before) ∙ cond_true _ _ _ (ap not (told c.before _ c.if2.false)))
 
-pub row-refusal-spec : {M : Type 1} → statement M
-row-refusal-spec =
+pub row_refusal_spec : {M : Type 1} → statement M
+row_refusal_spec =
     tie.close
     (tie.spec
-    array-read-kind
-    length-of-requires
+    array_read_kind
+    length_of_requires
     returns
-    array-read-fits-widths
-    array-read-fits-widths-2
-    array-read-fits-widths-3
-    array-read-fits-widths-4
-    array-read-fits-widths-5
-    fits-widths-requires
-    returns-2
-    returns-3)
+    array_read_fits_widths
+    array_read_fits_widths_2
+    array_read_fits_widths_3
+    array_read_fits_widths_4
+    array_read_fits_widths_5
+    fits_widths_requires
+    returns_2
+    returns_3)
