@@ -1,5 +1,7 @@
 // The board: one event on a record and its lent sample memory, as `rules` says.
 // Every call takes every input. What each promises is in specs/Promises.antt.
+#![tactic(auto)]
+
 ghost use Rattle.board.specs.Promises.{Stepped};
 
 use refusals::refusal;

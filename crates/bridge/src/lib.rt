@@ -1,5 +1,7 @@
 // One event, and the rate question, on rows of numbers, for hosts in Rust and C.
 // A slice is a pointer and then a length on their side (hosts/).
+#![tactic(auto)]
+
 ghost use Rattle.std.specs.Prelude.{◌≡◌, cond, eqb, length};
 ghost use Rattle.rows.specs.Places.{row_long};
 ghost use Rattle.rows.specs.Writing.{board_row};

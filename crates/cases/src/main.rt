@@ -1,5 +1,7 @@
 // 01's cases that are run and compared, and more: what each prints is held to the file `stdout`. The cases are the lines of the file
 // `stdin`, so that one more is no code more. Nothing is promised of what is written; every function is proved safe.
+#![tactic(auto)]
+
 use desk::cleared;
 use line::read;
 

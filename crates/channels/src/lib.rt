@@ -1,5 +1,7 @@
 // Which channels an accepted clock serves. Every call takes every input. It tells what specs/Serving.antt says
 // (`Told` of rules/specs/Told.antt).
+#![tactic(auto)]
+
 ghost use Rattle.rules.specs.Told.{Told};
 ghost use Rattle.channels.specs.Serving.{serving_of};
 

@@ -1,5 +1,7 @@
 // Standard input and output of the programs. A failure is said on standard error and is never taken for the end of the input.
 // No promise can say what is read or written: that rests on the contracts of the kit's C library.
+#![tactic(auto)]
+
 ghost use Rattle.std.specs.Prelude.{min, ◌≡◌, length};
 ghost use Rattle.io.specs.Counts.{IsPrefixLen};
 

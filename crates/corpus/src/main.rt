@@ -1,5 +1,7 @@
 // The frozen corpus: plays each session on standard input and prints its number and the checksum of its listing. So a change to any byte
 // of any listing shows as a line that differs. Nothing is promised of what is written; every function is proved safe.
+#![tactic(auto)]
+
 use listing::{Listed, list};
 
 mod checksum;

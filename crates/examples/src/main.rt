@@ -1,6 +1,8 @@
 // Plays the example sessions of data/ and holds the listing of each to the one beside it: NAME.hex is the session as hex text,
 // NAME.txt its listing; NAME.md is a document with both in its blocks. One line is written for each. Nothing is promised of what is
 // written; every function is proved safe.
+#![tactic(auto)]
+
 ghost use Rattle.std.specs.Prelude.{◌≡◌, length};
 
 use console::{Input, within};

@@ -1,5 +1,7 @@
 // Session files: the types that specs/ speaks of and that the crates above work on. There is no function here: what stands in a file is
 // said in specs/.
+#![tactic(auto)]
+
 use rules::Event;
 
 // Why a file is refused; `fault_number` in specs/File.antt has 01's numbers.

@@ -1,4 +1,6 @@
 // Hex text, in which people write session files: the bytes that it says. Every call takes every input.
+#![tactic(auto)]
+
 ghost use Rattle.hex.specs.Promises.{Decodes};
 
 use crate::marks::{mark_at, opening};

@@ -1,5 +1,7 @@
 // Reads hex text from standard input to its end and writes the bytes that it says: the rest is crate `hex`. On standard error it
 // says how many bytes they are, or, where it writes none, what is wrong.
+#![tactic(auto)]
+
 ghost use Rattle.std.specs.Prelude.{◌≡◌, length};
 
 use console::{Input, read_input, within, write_output};

@@ -1,6 +1,8 @@
 // The kinds of a session file's records: how long each is, the signal that it says, and back; an event as a row that begins with its
 // kind; and the numbers of a file's faults.
 // Every call takes every input, and tells what a rule says (`Told` of rules/specs/Told.antt).
+#![tactic(auto)]
+
 ghost use Rattle.rules.specs.Told.{Told};
 ghost use Rattle.file_rules.specs.Bytes.{signal_kind};
 ghost use Rattle.file_rules.specs.File.{length_of, signal_of, fault_number};

@@ -1,6 +1,8 @@
 // What an event leaves of the size code and of the interrupt request, and the condition that is selected. Every call takes every input,
 // and tells what a rule says (`Told` of rules/specs/Told.antt); a fitted code above 15, as no sound record has, counts as 15 (`capped` of
 // record/specs/Capped.antt).
+#![tactic(auto)]
+
 ghost use Rattle.rules.specs.Size.{size_after};
 ghost use Rattle.rules.specs.Interrupt.{condition, request_held, request_after};
 ghost use Rattle.rules.specs.Told.{Told};

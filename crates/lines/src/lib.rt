@@ -1,5 +1,7 @@
 // Lines of a listing as bytes in a lent output, each from a place on; the answer is the place after it. Every call takes every input:
 // where the output has no room for the longest such line, nothing is written and the place comes back.
+#![tactic(auto)]
+
 ghost use Rattle.std.specs.Prelude.{length};
 ghost use Rattle.listing_rules.specs.Text.{line, tail};
 ghost use Rattle.lines.specs.Promises.{Printed};

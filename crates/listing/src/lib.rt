@@ -1,4 +1,6 @@
 // The listing of a session file as bytes in a lent output. Every call takes every input.
+#![tactic(auto)]
+
 ghost use Rattle.listing.specs.Promises.{Lists};
 
 use crate::whole::put_body;

@@ -34,7 +34,7 @@ pub(crate) fn with_levels(core: Core, levels: [u16; 20]) -> Core
         },
         control: Control {
             bursts: core.control.bursts,
-            ground: core.control.ground,
+            ground_sense: core.control.ground_sense,
             binary: core.control.binary,
             differential: core.control.differential,
             barred: core.control.barred,

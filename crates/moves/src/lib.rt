@@ -1,5 +1,7 @@
 // The values that move: those that an accepted clock takes to the channels, and one that a load stores.
 // Every call takes every input. What each promises is in specs/Promises.antt.
+#![tactic(auto)]
+
 ghost use Rattle.moves.specs.Promises.{Deals, LoadsOne};
 
 use crate::fates::fate_of;

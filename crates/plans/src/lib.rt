@@ -1,5 +1,7 @@
 // What an event is to do, before any value moves: the core that it leaves, and what then comes of the stored values.
 // Every call takes every input. `plan_of` tells the plan that specs/Plan.antt says (`Told` of rules/specs/Told.antt).
+#![tactic(auto)]
+
 ghost use Rattle.rules.specs.Told.{Told};
 ghost use Rattle.plans.specs.Plan.{planned};
 

@@ -21,7 +21,7 @@ pub(crate) fn initial(o: Options) -> Core
         options: o,
         control: Control {
             bursts: false,
-            ground: false,
+            ground_sense: false,
             binary: true,
             differential: false,
             barred: false,
@@ -70,7 +70,7 @@ pub(crate) fn control_of(v: u32) -> Control
 {
     Control {
         bursts: v / 1 % 2 == 1,
-        ground: v / 8 % 2 == 1,
+        ground_sense: v / 8 % 2 == 1,
         binary: v / 16 % 2 == 1,
         differential: v / 32 % 2 == 1,
         barred: v / 64 % 2 == 1,

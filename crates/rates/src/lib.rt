@@ -1,4 +1,6 @@
 // The rate question: the 512 reference frequencies in a table, and the figures of a board record.
+#![tactic(auto)]
+
 ghost use Rattle.std.specs.Prelude.{◌≤◌, ◌<◌, ◌≡◌};
 ghost use Rattle.rules.specs.Rates.{reference_of, whole_reference, sample_rate, rates};
 ghost use Rattle.rules.specs.Told.{Told};

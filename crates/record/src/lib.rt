@@ -1,5 +1,7 @@
 // A board record by itself: which settings are in range, the unpowered record, its depth, and the mask of its kit.
 // Every call takes every input, and tells what a rule says (`Told` of rules/specs/Told.antt).
+#![tactic(auto)]
+
 ghost use Rattle.std.specs.Prelude.{◌^◌, min};
 ghost use Rattle.rules.specs.Record.{fitted_in_range, code_in_range, firmware_in_range, depth_of, depth, channels, unpowered};
 ghost use Rattle.rules.specs.Told.{Told};
@@ -23,7 +25,7 @@ pub fn unpowered() -> Board
         },
         control: Control {
             bursts: false,
-            ground: false,
+            ground_sense: false,
             binary: false,
             differential: false,
             barred: false,

@@ -1,4 +1,6 @@
 // Which events are refused, and by which number. Every call takes every input.
+#![tactic(auto)]
+
 ghost use Rattle.refusals.specs.Promises.{RefusalTold};
 
 use crate::events::{ordinary_refusal, power_up_refusal};

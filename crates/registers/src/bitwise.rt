@@ -39,7 +39,7 @@ pub(crate) fn read_control(b: Board) -> u32
         c.control.bursts,
         burst_ready(c),
         c.burst.software,
-        c.control.ground,
+        c.control.ground_sense,
         c.control.binary,
         c.control.differential,
         c.control.barred,

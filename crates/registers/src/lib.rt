@@ -1,5 +1,7 @@
 // The registers as the bus reads them. Every call takes every input, and tells what a rule says (`Told` of rules/specs/Told.antt); a
 // fitted code above 15, as no sound record has, counts as 15 (`capped` of record/specs/Capped.antt).
+#![tactic(auto)]
+
 ghost use Rattle.rules.specs.Registers.{read_at};
 ghost use Rattle.rules.specs.Told.{Told};
 ghost use Rattle.record.specs.Capped.{capped_board};

@@ -1,5 +1,7 @@
 // Reads a session file from standard input to its end and writes its listing: the rest is crate `listing`. Where the input cannot be
 // read, that is said on standard error and nothing is listed.
+#![tactic(auto)]
+
 ghost use Rattle.std.specs.Prelude.{◌≡◌, length};
 
 use console::{Input, read_input, within, write_output};

@@ -33,8 +33,8 @@ code = 6
 abbrev pub bursts : ℕ
 bursts = 7
 
-abbrev pub ground : ℕ
-ground = 8
+abbrev pub ground_sense : ℕ
+ground_sense = 8
 
 abbrev pub binary : ℕ
 binary = 9

@@ -33,7 +33,7 @@ abbrev pub control_at : List ℕ → Control
 control_at row =
     record {
       bursts = is_on row places.bursts;
-      ground = is_on row places.ground;
+      ground_sense = is_on row places.ground_sense;
       binary = is_on row places.binary;
       differential = is_on row places.differential;
       barred = is_on row places.barred;

@@ -21,7 +21,7 @@ head_row powered o s = flag powered ∷ o.range ∷ o.filter ∷ o.kit ∷ o.fir
 
 abbrev pub control_row : Control → List ℕ
 control_row c =
-    flag c.bursts ∷ flag c.ground ∷ flag c.binary ∷ flag c.differential ∷ flag c.barred
+    flag c.bursts ∷ flag c.ground_sense ∷ flag c.binary ∷ flag c.differential ∷ flag c.barred
     ∷ flag c.simultaneous ∷ c.selection ∷ []
 
 abbrev pub modes_row : Mode → Calibration → List ℕ

@@ -1,4 +1,6 @@
 // A board record as a row of 55 numbers, for hosts in other languages: read from one, and written to one.
+#![tactic(auto)]
+
 ghost use Rattle.rules.specs.Told.{Told};
 ghost use Rattle.rows.specs.Promises.{told_of, Put};
 

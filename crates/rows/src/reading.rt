@@ -36,7 +36,7 @@ fn control_at(row: &[u32]) -> Control
 {
     Control {
         bursts: row[places::BURSTS] != 0,
-        ground: row[places::GROUND] != 0,
+        ground_sense: row[places::GROUND] != 0,
         binary: row[places::BINARY] != 0,
         differential: row[places::DIFFERENTIAL] != 0,
         barred: row[places::BARRED] != 0,

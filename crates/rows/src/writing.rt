@@ -45,7 +45,7 @@ fn put_control(c: Control, row: &mut [u32])
     ensures { row.new ≡ sets row.old places.bursts (control_row c) }
 {
     row[places::BURSTS] = c.bursts as u32;
-    row[places::GROUND] = c.ground as u32;
+    row[places::GROUND] = c.ground_sense as u32;
     row[places::BINARY] = c.binary as u32;
     row[places::DIFFERENTIAL] = c.differential as u32;
     row[places::BARRED] = c.barred as u32;

@@ -115,7 +115,7 @@ unpowered =
         options = record { range = 0; filter = 0; kit = 0; firmware = 0 };
         control = record {
           bursts = false;
-          ground = false;
+          ground_sense = false;
           binary = false;
           differential = false;
           barred = false;

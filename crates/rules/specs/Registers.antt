@@ -22,7 +22,7 @@ control_bits b =
     -- D02      BURST TRIGGER           r/w  01: "D2 = software-started burst"
     ∷ b.core.burst.software
     -- D03      REMOTE GROUND SENSE     r/w
-    ∷ b.core.control.ground
+    ∷ b.core.control.ground_sense
     -- D04      OFFSET BINARY           r/w
     ∷ b.core.control.binary
     -- D05      DIFFERENTIAL SYNC I/O   r/w

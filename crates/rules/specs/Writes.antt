@@ -21,7 +21,7 @@ initial o =
       options = o;
       control = record {
         bursts = false;
-        ground = false;
+        ground_sense = false;
         binary = true;
         differential = false;
         barred = false;
@@ -47,7 +47,7 @@ abbrev pub control_of : ℕ → Control
 control_of v =
     record {
       bursts = bit 0 v;
-      ground = bit 3 v;
+      ground_sense = bit 3 v;
       binary = bit 4 v;
       differential = bit 5 v;
       barred = bit 6 v;

@@ -1,5 +1,6 @@
 // The board record of document 01, its events and its answers: the types that the specification in specs/ speaks of
 // and that the crates above work on. There is no function here: what the board does is said in specs/.
+#![tactic(auto)]
 
 // ---- Events
 
@@ -77,7 +78,7 @@ pub struct Size {
 #[derive(Drop)]
 pub struct Control {
     pub bursts: bool,
-    pub ground: bool,
+    pub ground_sense: bool,
     pub binary: bool,
     pub differential: bool,
     pub barred: bool,

@@ -1,6 +1,8 @@
 // The way through a session file. `next` tells what stands at a cursor, and every loop over a session goes from event to event by it;
 // `advance` is `next` and `step`, one record played; `run` is the plain loop over `advance`. A loop that has to see the event, as that of
 // crate `listing`, uses `next` and `step`. The law of all these loops is in specs/Way.antt.
+#![tactic(auto)]
+
 ghost use Rattle.rules.specs.Record.{unpowered};
 ghost use Rattle.rules.specs.Told.{Told};
 ghost use Rattle.rules.specs.ToldInNumbers.{ToldInNumbers};

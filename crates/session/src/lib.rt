@@ -1,5 +1,7 @@
 // Session files: the record at a place of the lent file bytes. Every call takes every input, and tells what a rule says, in document
 // 01's numbers too (`ToldInNumbers` of rules/specs/ToldInNumbers.antt).
+#![tactic(auto)]
+
 ghost use Rattle.std.specs.Prelude.{◌≡◌};
 ghost use Rattle.rules.specs.ToldInNumbers.{ToldInNumbers};
 ghost use Rattle.file_rules.specs.File.{item_at};

@@ -1,4 +1,6 @@
 // Which records are sound. Every call takes every input. It tells what the rule says (`Told` of rules/specs/Told.antt).
+#![tactic(auto)]
+
 ghost use Rattle.rules.specs.Record.{sound};
 ghost use Rattle.rules.specs.Told.{Told};
 

@@ -1,6 +1,8 @@
 // What is read off a record: is the buffer closed, is a clock or a burst awaited, is a tick accepted, how many values the active buffer
 // takes, its four flags; and whether an event initialises. Each test stands here once, for every crate that asks.
 // Every call takes every input, and tells what a rule says (`Told` of rules/specs/Told.antt).
+#![tactic(auto)]
+
 ghost use Rattle.std.specs.Prelude.{◌*◌, leb, ltb};
 ghost use Rattle.rules.specs.Record.{active_size};
 ghost use Rattle.rules.specs.Clocks.{closed, clock_ready, burst_ready, tick_accepted};

@@ -1,6 +1,8 @@
 // Tables of volts, and smallest sizes, that are printed and compared: what each session prints is held to the file `stdout`. The sessions
 // stand in the file `stdin`, each a line that begins with `=` and names it, or with `=?` where its smallest size is asked, and then its
 // bytes as hex text, so that one more is no code more. Nothing is promised of what is written; every function is proved safe.
+#![tactic(auto)]
+
 ghost use Rattle.std.specs.Prelude.{◌≤◌, length};
 
 use console::within;

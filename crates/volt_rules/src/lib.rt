@@ -1,5 +1,6 @@
 // Lowest, highest and last volts of the twenty channels over a session (02, 2026-03): the types that specs/ speaks of and that the crates
 // above work on. There is no function here: which levels count, and what the volts of a level are, is said in specs/.
+#![tactic(auto)]
 
 // 02: "one record per channel holding three f32 numbers in volts: lowest, highest, last"
 #[derive(Drop)]

@@ -1,5 +1,7 @@
 // Lowest, highest and last volts of each channel over a session (02, 2026-03). The loop has to see the event, since an accepted power-up
 // starts the table afresh and initialise, which can leave the same record, does not: so it goes by `run::next` and `board::step`.
+#![tactic(auto)]
+
 ghost use Rattle.volts.specs.Observing.{Observes};
 ghost use Rattle.volts.specs.Promises.{Tabled};
 

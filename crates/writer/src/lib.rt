@@ -1,5 +1,7 @@
 // Session files written: rows of six numbers, one for each event (02, request 2026-01), or a cut of a recording (2026-07), become a
 // version 1 session in a lent output. Every call takes every input: what is wrong is told by its number, and then nothing is written.
+#![tactic(auto)]
+
 ghost use Rattle.writer.specs.Promises.{Writes, cut_of, Cuts};
 
 use crate::judging::refusal_of;

@@ -44,7 +44,7 @@ unfoldable pub fields : Board → List ℕ
 fields b =
     flag b.core.powered
     ∷ b.core.options.range ∷ b.core.options.filter ∷ b.core.options.kit ∷ b.core.options.firmware
-    ∷ flag b.core.control.bursts ∷ flag b.core.control.ground ∷ flag b.core.control.binary
+    ∷ flag b.core.control.bursts ∷ flag b.core.control.ground_sense ∷ flag b.core.control.binary
     ∷ flag b.core.control.differential ∷ flag b.core.control.barred ∷ flag b.core.control.simultaneous
     ∷ b.core.control.selection
     ∷ flag b.core.mode.external ∷ flag b.core.mode.enabled ∷ flag b.core.mode.circular

@@ -15,7 +15,7 @@ pub record ControlRead (b : Board) : Type 0 where
   pub d01 : (bit 1 (control b) ≡ true) ↔ ((b.core.control.bursts ≡ true) × (b.core.burst.running ≡ false))
   -- "D2 = software-started burst"
   pub d02 : bit 2 (control b) ≡ b.core.burst.software
-  pub d03 : bit 3 (control b) ≡ b.core.control.ground
+  pub d03 : bit 3 (control b) ≡ b.core.control.ground_sense
   pub d04 : bit 4 (control b) ≡ b.core.control.binary
   pub d05 : bit 5 (control b) ≡ b.core.control.differential
   pub d06 : bit 6 (control b) ≡ b.core.control.barred

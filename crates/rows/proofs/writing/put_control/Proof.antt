@@ -56,7 +56,7 @@ returns c =
     let z = c.before.before.before.before.before.before in
     let k = z.args.c in
     λ i. sets z.args.row.now places.bursts
-    (flag_cast k.bursts i ∷ flag_cast k.ground i ∷ flag_cast k.binary i ∷ flag_cast k.differential i
+    (flag_cast k.bursts i ∷ flag_cast k.ground_sense i ∷ flag_cast k.binary i ∷ flag_cast k.differential i
     ∷ flag_cast k.barred i ∷ flag_cast k.simultaneous i ∷ k.selection ∷ [])
 
 pub put_control_spec : {M : Type 1} → statement M
