@@ -11,7 +11,7 @@ mod carry;
 mod steps;
 
 // What an event answers, and the record after it.
-#[derive(Drop)]
+#[derive(Clone, Copy)]
 pub struct Reply {
     pub answer: Answer,
     pub board: Board,

@@ -1,6 +1,6 @@
 // The desk at which a case is worked: a board, and what has been read of the line.
 
-#[derive(Drop)]
+#[derive(Clone, Copy)]
 pub(crate) struct Desk {
     // The board is a row of 55 numbers, as hosts have it: so a record can be handed in with any one number broken.
     pub(crate) row: [u32; 55],

@@ -15,7 +15,7 @@ mod targets;
 
 // What an accepted clock is to do: the channels that it gives a value each, as a mask; how many these are; the cursor after it; and
 // whether the values are stored again.
-#[derive(Drop)]
+#[derive(Clone, Copy)]
 pub struct Serving {
     pub mask: u32,
     pub moved: u32,

@@ -8,7 +8,7 @@ ghost use Rattle.io.specs.Counts.{IsPrefixLen};
 use libc::{STDERR_FILENO, STDIN_FILENO, STDOUT_FILENO};
 
 // So many bytes; or the reading failed, and `os::errno` says why.
-#[derive(Drop)]
+#[derive(Clone, Copy)]
 pub enum Input {
     Bytes(usize),
     Failed,

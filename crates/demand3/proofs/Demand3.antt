@@ -76,7 +76,8 @@ one_accepted o o' (same (signal x)) a a' = tt
 pub all_accepted_lem : (s s' : State) {es es' : List Event} → AllNeverLower es es' → PowerUpsAccepted s es → PowerUpsAccepted s' es' → PowerUpsAlike s es s' es'
 unfolding PowerUpsAccepted PowerUpsAlike
 all_accepted_lem s s' none a a' = tt
-all_accepted_lem s s' (next w ws) a a' = (one_accepted _ _ w a.0 a'.0, all_accepted_lem _ _ ws a.1 a'.1)
+all_accepted_lem s s' (next {e = e} {e' = e'} {es = es} {es' = es'} w ws) a a' =
+    (one_accepted _ _ w a.0 a'.0, all_accepted_lem (step s e).state (step s' e').state ws a.1 a'.1)
 
 -- ---- Beginnings
 

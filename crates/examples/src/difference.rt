@@ -1,6 +1,6 @@
 // Two texts held against each other.
 
-#[derive(Drop)]
+#[derive(Clone, Copy)]
 pub(crate) enum Difference {
     Nowhere,
     At(usize),

@@ -9,7 +9,7 @@ use console::{Input, within};
 use difference::{Difference, first_difference};
 use document::blocks;
 use files::{file_room, read};
-use hex::{Decoded, decode};
+use hex_text::{Decoded, decode};
 use libc::STDOUT_FILENO;
 use listing::{Listed, list};
 

@@ -140,4 +140,5 @@ pub row_back : Row-back
 row_back r l z = go ((row_exactly r 0 l).0 z)
   where
     go : RowGiven r 0 → row_of (event_of_row r) ≡ r
+    go (bad x) = elim x [ ]
     go (good e f q) = ap (λ (x : List ℕ). row_of (event_of_row x)) q ∙ ap row_of (row_read e) ∙ sym q

@@ -5,7 +5,7 @@
 use rules::Event;
 
 // Why a file is refused; `fault_number` in specs/File.antt has 01's numbers.
-#[derive(Drop)]
+#[derive(Clone, Copy)]
 pub enum Fault {
     Version,
     Cut,
@@ -14,14 +14,14 @@ pub enum Fault {
 }
 
 // How a file ends: with its last byte, or refused at the place where a record starts.
-#[derive(Drop)]
+#[derive(Clone, Copy)]
 pub enum End {
     File,
     Refused(Fault, usize),
 }
 
 // What stands at a place: an event, with the place of the next record; or the end.
-#[derive(Drop)]
+#[derive(Clone, Copy)]
 pub enum Item {
     Got(Event, usize),
     Over(End),

@@ -3,7 +3,7 @@
 #![tactic(auto)]
 
 // A character that says nothing, and whether what follows is in a comment; the two digits of a byte; or no hex text.
-#[derive(Drop)]
+#[derive(Clone, Copy)]
 pub enum Mark {
     Passed(bool),
     Byte(u8),

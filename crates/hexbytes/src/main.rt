@@ -6,7 +6,7 @@ ghost use Rattle.std.specs.Prelude.{◌≡◌, length};
 
 use console::{Input, read_input, within, write_output};
 use faults::{say, say_fault};
-use hex::{Decoded, decode};
+use hex_text::{Decoded, decode};
 
 mod faults;
 

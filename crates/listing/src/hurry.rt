@@ -15,7 +15,7 @@ use rules::{Board, Core, Ring};
 use run::{Ahead, Cursor, next};
 
 // The board after these events, what stands ahead, the place in the output and the number of the next line.
-#[derive(Drop)]
+#[derive(Clone, Copy)]
 pub(crate) struct Hurried {
     pub board: Board,
     pub ahead: Ahead,
@@ -51,7 +51,7 @@ pub(crate) fn ready(rest: Board, core: Core, ring: Ring, d: u32, n: Ahead) -> bo
 }
 
 // What the event changed, the cursor after it, and the place after its line.
-#[derive(Drop)]
+#[derive(Clone, Copy)]
 pub(crate) struct Hastened {
     pub change: Change,
     pub after: Cursor,

@@ -14,7 +14,7 @@ mod tails;
 mod whole;
 
 // How a listing went: so many bytes of text; or the output is too short, and needs so many. The latter is no refusal of the file.
-#[derive(Drop)]
+#[derive(Clone, Copy)]
 pub enum Listed {
     Text(usize),
     Short(usize),

@@ -17,7 +17,7 @@ use status::{closed, is_full, tick_accepted};
 
 // What stands ahead, if it is a load or a tick, as numbers: 1 a write of the value to 18h, 2 a tick, and the cursor after it; 0 anything
 // else.
-#[derive(Drop)]
+#[derive(Clone, Copy)]
 pub(crate) struct Common {
     pub kind: u32,
     pub value: u32,
@@ -79,7 +79,7 @@ pub(crate) fn common_of(n: Ahead) -> Common
 }
 
 // What an event that was done at once changed beside the levels, and its answers.
-#[derive(Drop)]
+#[derive(Clone, Copy)]
 pub(crate) struct Change {
     pub moved: u32,
     pub fate: u32,

@@ -16,7 +16,7 @@ mod limits;
 mod ring;
 
 // What an event that is not refused did, with the stored values at their places.
-#[derive(Drop)]
+#[derive(Clone, Copy)]
 pub struct Played {
     pub core: Core,
     pub ring: Ring,
@@ -25,7 +25,7 @@ pub struct Played {
 }
 
 // What values that leave change beside the levels and the memory.
-#[derive(Drop)]
+#[derive(Clone, Copy)]
 pub struct Frame {
     pub ring: Ring,
     pub burst: Burst,
@@ -33,7 +33,7 @@ pub struct Frame {
 }
 
 // What a load came to: its fate, and the ring after it.
-#[derive(Drop)]
+#[derive(Clone, Copy)]
 pub struct Stored {
     pub fate: u32,
     pub ring: Ring,

@@ -30,7 +30,7 @@ pub(crate) fn stepped(x: u32, d: u32) -> u32
 }
 
 // The value that left the front of the ring, and the ring after it.
-#[derive(Drop)]
+#[derive(Clone, Copy)]
 pub(crate) struct Departed {
     pub value: u32,
     pub ring: Ring,

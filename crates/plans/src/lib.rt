@@ -15,7 +15,7 @@ mod states;
 mod writes;
 
 // What comes of the stored values: nothing; all are dropped; a clock is accepted; one is loaded.
-#[derive(Drop)]
+#[derive(Clone, Copy)]
 pub enum Act {
     Nothing,
     Empties,
@@ -23,7 +23,7 @@ pub enum Act {
     Loads(u32),
 }
 
-#[derive(Drop)]
+#[derive(Clone, Copy)]
 pub struct Plan {
     pub core: Core,
     pub act: Act,

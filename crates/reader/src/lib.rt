@@ -10,7 +10,7 @@ ghost use Rattle.reader.specs.Promises.{Opened};
 use file_rules::Item;
 use session::item_at;
 
-#[derive(Drop)]
+#[derive(Clone, Copy)]
 pub struct Reader<'a> {
     pub bytes: &'a [u8],
     pub place: usize,

@@ -6,7 +6,7 @@
 
 // 01: "Power-up gives a fitted code d (0 to 15), range, filter and kit codes (0 to 2) and a firmware number (0 to 4095)."
 // The fields take any number: one out of range is refused.
-#[derive(Drop)]
+#[derive(Clone, Copy)]
 pub struct Settings {
     pub fitted: u32,
     pub range: u32,
@@ -17,7 +17,7 @@ pub struct Settings {
 
 // What reaches the board otherwise than over the bus: a tick of the rate generator, an outside clock, an outside trigger,
 // the end of a calibration, the end of settling.
-#[derive(Drop)]
+#[derive(Clone, Copy)]
 pub enum Signal {
     Tick,
     Outside,
@@ -27,7 +27,7 @@ pub enum Signal {
     Settled,
 }
 
-#[derive(Drop)]
+#[derive(Clone, Copy)]
 pub enum Event {
     PowerUp(Settings),
     Write { offset: u32, value: u32 },
@@ -39,7 +39,7 @@ pub enum Event {
 
 // 01: "Each event answers: refusal number; register value (0 unless a read); values moved (0 to 20); load fate (0 none,
 // 1 stored, 2 lost to full, 3 lost to closed)."
-#[derive(Drop)]
+#[derive(Clone, Copy)]
 pub struct Answer {
     pub refusal: u32,
     pub register: u32,
@@ -48,7 +48,7 @@ pub struct Answer {
 }
 
 // 01: "A rate question answers refusal number, whole reference and rate, the last two 0 when refused."
-#[derive(Drop)]
+#[derive(Clone, Copy)]
 pub struct Figures {
     pub refusal: u32,
     pub reference: u32,
@@ -59,7 +59,7 @@ pub struct Figures {
 
 // What power-up fixes, but for the fitted code. The numbers of a record are 32 bits wide, so that any damaged record can be handed in:
 // soundness is a test, and no matter of types.
-#[derive(Drop)]
+#[derive(Clone, Copy)]
 pub struct Options {
     pub range: u32,
     pub filter: u32,
@@ -68,14 +68,14 @@ pub struct Options {
 }
 
 // The fitted code d and the size code (BOR D00-D03): all that says how much the active buffer holds.
-#[derive(Drop)]
+#[derive(Clone, Copy)]
 pub struct Size {
     pub fitted: u32,
     pub code: u32,
 }
 
 // BCR D00, D03 to D10.
-#[derive(Drop)]
+#[derive(Clone, Copy)]
 pub struct Control {
     pub bursts: bool,
     pub ground_sense: bool,
@@ -87,7 +87,7 @@ pub struct Control {
 }
 
 // BOR D04, D05, D08.
-#[derive(Drop)]
+#[derive(Clone, Copy)]
 pub struct Mode {
     pub external: bool,
     pub enabled: bool,
@@ -95,7 +95,7 @@ pub struct Mode {
 }
 
 // Calibrating (BCR D13), failed (BCR D14), and 01's "calibrated".
-#[derive(Drop)]
+#[derive(Clone, Copy)]
 pub struct Calibration {
     pub running: bool,
     pub failed: bool,
@@ -103,7 +103,7 @@ pub struct Calibration {
 }
 
 // 08h and 1Ch, and whether the adjustable clock is settling.
-#[derive(Drop)]
+#[derive(Clone, Copy)]
 pub struct Clock {
     pub divisor: u32,
     pub nclk: u32,
@@ -112,28 +112,28 @@ pub struct Clock {
 }
 
 // A burst in progress, and whether software started it.
-#[derive(Drop)]
+#[derive(Clone, Copy)]
 pub struct Burst {
     pub running: bool,
     pub software: bool,
 }
 
 // A load request that waits for the frame's end, and a circular buffer that one has opened.
-#[derive(Drop)]
+#[derive(Clone, Copy)]
 pub struct Load {
     pub pending: bool,
     pub opened: bool,
 }
 
 // BUFFER OVERFLOW (BOR D16) and FRAME OVERFLOW (BOR D17).
-#[derive(Drop)]
+#[derive(Clone, Copy)]
 pub struct Lost {
     pub full: bool,
     pub closed: bool,
 }
 
 // The channel mask (04h), the channel cursor of sequential mode, and the twenty levels.
-#[derive(Drop)]
+#[derive(Clone, Copy)]
 pub struct Outputs {
     pub mask: u32,
     pub cursor: u32,
@@ -141,7 +141,7 @@ pub struct Outputs {
 }
 
 // All of the board but its size, its interrupt request and where its values stand: what the rules of play may see.
-#[derive(Drop)]
+#[derive(Clone, Copy)]
 pub struct Core {
     pub powered: bool,
     pub options: Options,
@@ -156,13 +156,13 @@ pub struct Core {
 }
 
 // Where the stored values stand in the sample memory.
-#[derive(Drop)]
+#[derive(Clone, Copy)]
 pub struct Ring {
     pub first: u32,
     pub count: u32,
 }
 
-#[derive(Drop)]
+#[derive(Clone, Copy)]
 pub struct Board {
     pub core: Core,
     pub size: Size,

@@ -17,33 +17,33 @@ use record::unpowered;
 use rules::{Answer, Board, Event};
 
 // How far a session has been read.
-#[derive(Drop)]
+#[derive(Clone, Copy)]
 pub struct Cursor {
     pub place: usize,
 }
 
 // What stands at a cursor: an event, and the cursor after it; or how the file ends.
-#[derive(Drop)]
+#[derive(Clone, Copy)]
 pub enum Ahead {
     Found(Event, Cursor),
     Over(End),
 }
 
 // One record: the event's answer and the cursor after it; or how the file ends.
-#[derive(Drop)]
+#[derive(Clone, Copy)]
 pub enum Progress {
     Played(Answer, Cursor),
     Ended(End),
 }
 
-#[derive(Drop)]
+#[derive(Clone, Copy)]
 pub struct Advanced {
     pub progress: Progress,
     pub board: Board,
 }
 
 // The board that a session leaves, and how the file ends.
-#[derive(Drop)]
+#[derive(Clone, Copy)]
 pub struct Ran {
     pub end: End,
     pub board: Board,

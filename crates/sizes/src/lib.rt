@@ -15,7 +15,7 @@ mod replay;
 mod sized;
 
 // The refusal number, 0 where there is none, and the size code that is named.
-#[derive(Drop)]
+#[derive(Clone, Copy)]
 pub struct Smallest {
     pub refusal: u32,
     pub code: u32,

@@ -2,7 +2,7 @@
 // here is exact, and sixteen digits behind the point are enough.
 
 // How often 1 can be taken from a number, up to ten times, and what is left.
-#[derive(Drop)]
+#[derive(Clone, Copy)]
 struct Parted {
     ones: u64,
     rest: f32,

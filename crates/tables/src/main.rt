@@ -6,7 +6,7 @@
 ghost use Rattle.std.specs.Prelude.{◌≤◌, length};
 
 use console::within;
-use hex::{Decoded, decode};
+use hex_text::{Decoded, decode};
 use sizes::smallest_size;
 use volts::volts;
 

@@ -68,7 +68,7 @@ unfolding counted also outcomes
 later_counted r x xs s [] n = refl
 later_counted r x xs s (e ∷ es) n =
     ap (λ (w : Counted). counted w (step s e).state es) (count_on e (step s e) _ (none_first s e es n))
-    ∙ later_counted r _ (x ∷ xs) (step s e).state es (none_later s e es n)
+    ∙ later_counted r (step s e).state.board.core.outputs.levels (x ∷ xs) (step s e).state es (none_later s e es n)
 
 pub counts_since : Counts-since
 unfolding counted after outcomes

@@ -44,7 +44,7 @@ count_ranged s e w h = cases Ranged (starts_afresh e (step s e)) (λ f _. up (is
 counted_ranged : (w : Counted) (s : State) (es : List Event) → Ranged w → Ranged (counted w s es)
 unfolding counted
 counted_ranged w s [] h = h
-counted_ranged w s (e ∷ es) h = counted_ranged _ (step s e).state es (count_ranged s e w h)
+counted_ranged w s (e ∷ es) h = counted_ranged (count_event e (step s e) w) (step s e).state es (count_ranged s e w h)
 
 session_ranged : (s m : List ℕ) → Ranged (counted_in s m)
 unfolding counted_in

@@ -41,7 +41,7 @@ laid_sixteen : (binary : Bool) (xs ks vs : List ℕ) → Sixteen xs → Sixteen 
 unfolding laid
 laid_sixteen binary xs [] vs h = h
 laid_sixteen binary xs (k ∷ ks) [] h = h
-laid_sixteen binary xs (k ∷ ks) (v ∷ vs) h = laid_sixteen binary _ ks vs (set_sixteen xs k _ (coded_sixteen binary v) h)
+laid_sixteen binary xs (k ∷ ks) (v ∷ vs) h = laid_sixteen binary (set xs k (coded binary v)) ks vs (set_sixteen xs k _ (coded_sixteen binary v) h)
 
 replicate_sixteen : (n v : ℕ) → v < 65536 → Sixteen (replicate n v)
 replicate_sixteen zero v l k = lit< tt

@@ -3,7 +3,7 @@
 #![tactic(auto)]
 
 // 02: "one record per channel holding three f32 numbers in volts: lowest, highest, last"
-#[derive(Drop)]
+#[derive(Clone, Copy)]
 pub struct Extremes {
     pub lowest: f32,
     pub highest: f32,
@@ -11,7 +11,7 @@ pub struct Extremes {
 }
 
 // The refusal number, 0 where there is none, and a record for each channel.
-#[derive(Drop)]
+#[derive(Clone, Copy)]
 pub struct Table {
     pub refusal: u32,
     pub channels: [Extremes; 20],

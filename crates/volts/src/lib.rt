@@ -18,7 +18,7 @@ mod levels;
 mod running;
 
 // The board and the table after an event.
-#[derive(Drop)]
+#[derive(Clone, Copy)]
 struct Observed {
     board: Board,
     table: Table,

@@ -8,7 +8,7 @@ use kinds::length_of;
 
 // What is found of rows: by which number the first bad one is refused, 0 where none is; and then how many bytes their fields have. A row
 // has six numbers, and its fields six bytes at most, so that many bytes can always be counted.
-#[derive(Drop)]
+#[derive(Clone, Copy)]
 pub(crate) struct Finding {
     pub(crate) refusal: u32,
     pub(crate) fields: usize,

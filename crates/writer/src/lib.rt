@@ -18,7 +18,7 @@ mod records;
 mod rows;
 
 // Where the writer stopped; refused, the place is 0.
-#[derive(Drop)]
+#[derive(Clone, Copy)]
 pub struct Written {
     pub refusal: u32,
     pub place: usize,

@@ -1,0 +1,5 @@
+use mathlib.Core.Path.{refl}
+use Rattle.record.proofs.code_in_range.Goals as goal
+
+pub returns : goal.returns
+returns c = record { told = refl }

@@ -1,0 +1,267 @@
+#!/usr/bin/env python3
+"""Turns the proofs of a crate that close a `tie` (proofs/F/Proof.antt) into Invariants.antt and Answers.antt.
+
+usage: tools/answers.py CRATE_FOLDER NAMES_JSON [FUNCTION ..]
+
+NAMES_JSON is what `rt check --generated DIR --old-names` writes there: each goal and step with its old and its new name. A path that climbs,
+as `c.before.before.if1.true`, becomes the flat one, as `c.if-x-y.true`; a name that stands for a place is written out. Answers that only
+say `search rules` go, since the check tries that and more. What could not be resolved is said and left as it is.
+"""
+import json
+import os
+import re
+import sys
+
+PLAIN = {"args", "requires", "ranges", "well_formed", "lifetimes", "type_inv"}
+PATH = re.compile(r"(?<![\w.'₀-])([A-Za-z_][\w'₀]*(?:[-_][\w'₀]+)*)((?:\.[\w'₀-]+)+)")
+TOKEN = re.compile(r"[^\s(){}\[\];,.\"|`]+")
+
+
+def norm(x):
+    x = x.replace("_", "-").lower()
+    return x[:-4] if x.endswith("-lem") else x
+
+
+def key(x):
+    k = norm(x)
+    return k[len("overflow-"):] if k.startswith("overflow-") else k
+
+
+class Function:
+    def __init__(self, names):
+        self.places = {p[0]: p for p in names["places"]}
+        self.arms = {p[0]: a for p, a in zip(names["places"], names["arms"])}
+        self.asked = {}
+        self.needs = {}
+        self.double = set()
+        for (old, new), at in zip(names["needs"], names["asked_at"]):
+            k = key(old)
+            if k in self.needs:
+                self.double.add(k)
+            self.needs[k] = new
+            self.asked[k] = at[0]
+        self.loops = names["loops"]
+        self.changed = names["changed"]
+        self.said = []
+
+    def need(self, tie_name):
+        k = key(tie_name)
+        if k in self.needs:
+            return self.needs[k], self.asked[k]
+        self.said.append(f"no goal for {tie_name}")
+        return None, None
+
+    def resolve(self, place, comps):
+        """A path from a place: ('place', P) where it only climbs, else ('term', text)."""
+        i = 0
+        while i < len(comps) and comps[i] == "before":
+            parent = self.places[place][1]
+            if parent is None:
+                self.said.append("climbs past the start: " + ".".join(comps))
+                return "term", "c." + ".".join(comps)
+            place = parent
+            i += 1
+        if i == len(comps):
+            return "place", place
+        x, rest = comps[i], comps[i + 1:]
+        if x in PLAIN:
+            return "term", ".".join(["c", x] + rest)
+        at = place
+        while at is not None:
+            old, new = self.places[at][2]
+            if norm(old) == norm(x):
+                arm = self.arms.get(at)
+                if arm:
+                    best = None
+                    for field, step, path in arm[2]:
+                        if norm(step) == norm(x) and rest[:len(path)] == path and (best is None or len(path) > len(best[1])):
+                            best = (field, path)
+                    if best and best[1]:
+                        return "term", ".".join(["c", arm[0], best[0]] + rest[len(best[1]):])
+                    if best:
+                        return "term", ".".join(["c", new] + rest)
+                return "term", ".".join(["c", new] + rest)
+            at = self.places[at][1]
+        self.said.append(f"no step {x} at {place}: " + ".".join(comps))
+        return "term", ".".join(["c"] + comps[i:])
+
+    def body(self, text, place):
+        """The answer's text with its paths resolved; names that stand for places are written out."""
+        alias = {"c": place}
+        lines = []
+        for line in text.split("\n"):
+            m = re.match(r"^(\s*)(.*?)let ([A-Za-z_][\w'₀-]*) = (c|[A-Za-z_][\w'₀-]*)((?:\.before)*) in\s*(.*)$", line)
+            if m and m.group(4) in alias and not m.group(2):
+                kind, p = self.resolve(alias[m.group(4)], [c for c in m.group(5).split(".") if c])
+                alias[m.group(3)] = p
+                if not m.group(6):
+                    continue
+                line = m.group(1) + m.group(6)
+
+            def turn(m):
+                head = m.group(1)
+                if head not in alias:
+                    return m.group(0)
+                comps = m.group(2)[1:].split(".")
+                kind, t = self.resolve(alias[head], comps)
+                if kind == "place":
+                    self.said.append("a place is passed on: " + m.group(0))
+                    return "c"
+                return t
+            lines.append(PATH.sub(turn, line))
+        for a in alias:
+            if a != "c" and any(re.search(r"(?<![\w.'-])" + re.escape(a) + r"(?![\w'.-])", l) for l in lines):
+                self.said.append(f"the place {a} is passed on")
+        return "\n".join(lines)
+
+    def loop(self, tie_name):
+        """(new name, the variables by position) of `invariant-loop`, `decreases-loop2` .."""
+        m = re.match(r"(invariant|decreases)[-_](.*)$", tie_name)
+        if not m:
+            return None
+        for ((old, new), names), changed in zip(self.loops, self.changed):
+            if norm(old) == norm(m.group(2)):
+                same = [n for n, c in zip(names, changed) if not c]
+                moved = [n for n, c in zip(names, changed) if c]
+                order = ["l." + n for n in same] + ["l.initial." + n for n in moved] + ["l." + n for n in moved]
+                return m.group(1) + "-" + new, order
+        self.said.append(f"no loop for {tie_name}")
+        return None
+
+
+def split(text):
+    """The head's comments, the use lines, and the blocks of a file."""
+    comments, uses, blocks = [], [], []
+    current = []
+    for line in text.split("\n"):
+        if line.startswith(("use ", "pub use ")):
+            uses.append(line)
+        elif line.strip() == "":
+            if current:
+                blocks.append(current)
+                current = []
+        elif line.startswith("--") and not uses and not blocks and not current:
+            comments.append(line)
+        else:
+            current.append(line)
+    if current:
+        blocks.append(current)
+    return comments, uses, blocks
+
+
+def used(uses, text):
+    words = set(TOKEN.findall(text))
+    kept = []
+    for u in uses:
+        m = re.match(r"^(use [^{]+\.)\{([^}]*)\}$", u)
+        if not m:
+            m2 = re.match(r"^use .* as (\S+)$", u)
+            last = m2.group(1) if m2 else u.split(".")[-1]
+            if last in words:
+                kept.append(u)
+            continue
+        names = []
+        for n in m.group(2).split(","):
+            n = n.strip()
+            name = n.split(" as ")[-1]
+            if "◌" in name:
+                parts = [p for p in name.split("◌") if p]
+                if all(p in words for p in parts):
+                    names.append(n)
+            elif name in words:
+                names.append(n)
+        if names:
+            kept.append(m.group(1) + "{" + ", ".join(names) + "}")
+    return kept
+
+
+def turn(path, names, crate, where):
+    f = Function(names)
+    with open(path, encoding="utf-8") as h:
+        comments, uses, blocks = split(h.read())
+    uses = [u for u in uses if ".Statement." not in u and not u.endswith("Tie as tie")]
+    invariants, answers = [], []
+    for b in blocks:
+        joined = "\n".join(b)
+        if re.search(r"^pub \S+ : \{M : Type 1\}", joined, re.M):
+            continue
+        m = re.search(r"^(?:abbrev )?(?:pub )?(\S+) : tie\.(\S+)(.*)$", joined, re.M)
+        if not m:
+            answers.append(joined)
+            continue
+        name, goal = m.group(1), m.group(2)
+        if goal.startswith("Need-"):
+            new, place = f.need(goal[5:])
+            if new is None:
+                answers.append(joined)
+                continue
+            lines = joined.split("\n")
+            rest = [l for l in lines if not re.match(r"^(?:pub )?\S+ : tie\.", l)]
+            head = [l for l in rest if l.startswith(("--", "unfolding"))]
+            body = [l for l in rest if not l.startswith(("--", "unfolding"))]
+            text = "\n".join(body)
+            text = re.sub(r"^" + re.escape(name) + r" c(?: κs)? =", new + " c =", text)
+            text = f.body(text, place)
+            if re.sub(r"\s+", " ", text) == new + " c = search rules":
+                continue
+            notes = [h for h in head if h.startswith("--")]
+            opens = [h for h in head if h.startswith("unfolding")]
+            answers.append("\n".join(notes + [f"pub {new} : goal.{new}"] + opens + [text]))
+        else:
+            l = f.loop(goal.split(" ")[0])
+            if l is None:
+                answers.append(joined)
+                continue
+            new, order = l
+            lines = joined.split("\n")
+            rest = [x for x in lines if not re.match(r"^(?:abbrev )?(?:pub )?\S+ : tie\.", x)]
+            head = [x for x in rest if x.startswith(("--", "unfolding"))]
+            text = "\n".join(x for x in rest if not x.startswith(("--", "unfolding")))
+            m2 = re.match(r"^\S+ ([^=]*)=\s*([\s\S]*)$", text)
+            params = m2.group(1).split()
+            if len(params) != len(order):
+                f.said.append(f"{name}: {len(params)} parameters, and {len(order)} variables")
+                answers.append(joined)
+                continue
+            table = dict(zip(params, order))
+            out = re.sub(r"(?<![\w.'₀-])([A-Za-z_][\w'₀]*(?:-[\w'₀]+)*)(?![\w'₀-])", lambda k: table.get(k.group(1), k.group(1)), m2.group(2))
+            invariants.append("\n".join([h for h in head if h.startswith("--")] + [f"abbrev pub {new} : goal.{new}"] + [h for h in head if h.startswith("unfolding")] + [f"{new} l = " + out]))
+    folder = os.path.dirname(path)
+    module = f"Rattle.{crate}.proofs.{where}"
+    if invariants:
+        text = "\n\n".join(invariants)
+        with open(os.path.join(folder, "Invariants.antt"), "w", encoding="utf-8") as h:
+            h.write("\n".join(comments + used(uses, text) + [f"use {module}.Given as goal"]) + "\n\n" + text + "\n")
+        comments = []
+    if answers:
+        text = "\n\n".join(answers)
+        with open(os.path.join(folder, "Answers.antt"), "w", encoding="utf-8") as h:
+            h.write("\n".join(comments + used(uses, text) + [f"use {module}.Goals as goal"]) + "\n\n" + text + "\n")
+    os.remove(path)
+    for s in f.said:
+        print(f"{where}: {s}")
+    for d in f.double:
+        print(f"{where}: two goals are named {d}")
+
+
+def main():
+    folder, listing = sys.argv[1:3]
+    only = sys.argv[3:]
+    crate = os.path.basename(os.path.normpath(folder))
+    with open(listing, encoding="utf-8") as h:
+        names = json.load(h)
+    for at, dirs, files in os.walk(os.path.join(folder, "proofs")):
+        dirs.sort()
+        if "Proof.antt" in files:
+            where = os.path.relpath(at, os.path.join(folder, "proofs")).replace(os.sep, ".")
+            if only and where not in only:
+                continue
+            k = f"Rattle-{crate}-proofs.{where}.Lts"
+            if k not in names:
+                print(f"{where}: the check does not name its goals")
+                continue
+            turn(os.path.join(at, "Proof.antt"), names[k], crate, where)
+
+
+if __name__ == "__main__":
+    main()
