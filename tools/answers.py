@@ -14,7 +14,7 @@ import sys
 
 PLAIN = {"args", "requires", "ranges", "well_formed", "lifetimes", "type_inv"}
 PATH = re.compile(r"(?<![\w.'₀-])([A-Za-z_][\w'₀]*(?:[-_][\w'₀]+)*)((?:\.[\w'₀-]+)+)")
-TOKEN = re.compile(r"[^\s(){}\[\];,.\"|`]+")
+TOKEN = re.compile(r"[^\s(){}\[\];,.\"`]+")
 
 
 def norm(x):
@@ -64,7 +64,8 @@ class Function:
         if i == len(comps):
             return "place", place
         x, rest = comps[i], comps[i + 1:]
-        if x in PLAIN:
+        if x.replace("-", "_") in PLAIN:
+            x = x.replace("-", "_")
             return "term", ".".join(["c", x] + rest)
         at = place
         while at is not None:
