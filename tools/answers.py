@@ -83,6 +83,9 @@ class Function:
                         return "term", ".".join(["c", new] + rest)
                 return "term", ".".join(["c", new] + rest)
             at = self.places[at][1]
+        bare = re.sub(r"-?\d+$", "", norm(x))
+        if bare != norm(x):
+            return self.resolve(place, [bare] + rest)
         self.said.append(f"no step {x} at {place}: " + ".".join(comps))
         return "term", ".".join(["c"] + comps[i:])
 
@@ -150,6 +153,10 @@ def split(text):
     return comments, uses, blocks
 
 
+def words(text, names):
+    return TOKEN.sub(lambda m: names.get(m.group(0), m.group(0)), text)
+
+
 def used(uses, text):
     words = set(TOKEN.findall(text))
     kept = []
@@ -181,7 +188,7 @@ def turn(path, names, crate, where):
     with open(path, encoding="utf-8") as h:
         comments, uses, blocks = split(h.read())
     uses = [u for u in uses if ".Statement." not in u and not u.endswith("Tie as tie")]
-    invariants, answers = [], []
+    invariants, answers, renamed = [], [], {}
     for b in blocks:
         joined = "\n".join(b)
         if re.search(r"^pub \S+ : \{M : Type 1\}", joined, re.M):
@@ -196,6 +203,8 @@ def turn(path, names, crate, where):
             if new is None:
                 answers.append(joined)
                 continue
+            if name != new:
+                renamed[name] = new
             lines = joined.split("\n")
             rest = [l for l in lines if not re.match(r"^(?:pub )?\S+ : tie\.", l)]
             head = [l for l in rest if l.startswith(("--", "unfolding"))]
@@ -227,6 +236,8 @@ def turn(path, names, crate, where):
             table = dict(zip(params, order))
             out = re.sub(r"(?<![\w.'₀-])([A-Za-z_][\w'₀]*(?:-[\w'₀]+)*)(?![\w'₀-])", lambda k: table.get(k.group(1), k.group(1)), m2.group(2))
             invariants.append("\n".join([h for h in head if h.startswith("--")] + [f"abbrev pub {new} : goal.{new}"] + [h for h in head if h.startswith("unfolding")] + [f"{new} l = " + out]))
+    # an answer that cites another one
+    answers = [words(a, renamed) for a in answers]
     folder = os.path.dirname(path)
     module = f"Rattle.{crate}.proofs.{where}"
     if invariants:
