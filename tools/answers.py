@@ -131,9 +131,8 @@ class Function:
             return None
         for ((old, new), names), changed in zip(self.loops, self.changed):
             if norm(old) == norm(m.group(2)):
-                same = [n for n, c in zip(names, changed) if not c]
-                moved = [n for n, c in zip(names, changed) if c]
-                order = ["l." + n for n in same] + ["l.initial." + n for n in moved] + ["l." + n for n in moved]
+                order = [("l.initial." if c else "l.") + n for n, c in zip(names, changed)]
+                order += ["l." + n for n, c in zip(names, changed) if c]
                 return m.group(1) + "-" + new, order
         self.said.append(f"no loop for {tie_name}")
         return None
