@@ -3,12 +3,6 @@ use Rattle.rows.specs.Places as places
 use Rattle.rows.specs.Reading.{at, is_on, board_at}
 use Rattle.rows.proofs.reading.board_in.Goals as goal
 
-pub core_at-requires : goal.core_at-requires
-core_at-requires c = c.requires
-
-pub size_at-requires : goal.size_at-requires
-size_at-requires c = c.requires
-
 pub returns : goal.returns
 unfolding board_at
 returns c =

@@ -8,30 +8,6 @@ use Rattle.rows.proofs.reading.levels_at.Goals as goal
 pub loop-i-init : goal.loop-i-init
 loop-i-init c = stored_none _ _ _ (omega (arith, row_levels_length c.args.row.now c.requires))
 
-pub overflow_add-levels : goal.overflow_add-levels
-overflow_add-levels c = omega arith
-
-pub offset_bounds-row-i : goal.offset_bounds-row-i
-offset_bounds-row-i c = omega arith
-
-pub bounds-row-i : goal.bounds-row-i
-bounds-row-i c = omega arith
-
-pub overflow_cast-levels : goal.overflow_cast-levels
-overflow_cast-levels c = omega arith
-
-pub offset_bounds-levels-i : goal.offset_bounds-levels-i
-offset_bounds-levels-i c = omega arith
-
-pub bounds-levels-i : goal.bounds-levels-i
-bounds-levels-i c = omega arith
-
-pub overflow_add-i : goal.overflow_add-i
-overflow_add-i c = omega arith
-
-pub loop-i-smaller : goal.loop-i-smaller
-loop-i-smaller c = omega arith
-
 pub loop-i-preserved : goal.loop-i-preserved
 loop-i-preserved c =
     let row = c.args.row.now in

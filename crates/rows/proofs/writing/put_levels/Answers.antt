@@ -9,30 +9,6 @@ use Rattle.rows.proofs.writing.put_levels.Goals as goal
 pub loop-i-init : goal.loop-i-init
 loop-i-init c = let long : length c.args.o.levels ≡ places.level_count = search rules in stored_none _ _ _ (omega arith)
 
-pub offset_bounds-levels-i : goal.offset_bounds-levels-i
-offset_bounds-levels-i c = omega arith
-
-pub bounds-levels-i : goal.bounds-levels-i
-bounds-levels-i c = omega arith
-
-pub wide-requires : goal.wide-requires
-wide-requires c = tt
-
-pub overflow_add-row : goal.overflow_add-row
-overflow_add-row c = omega arith
-
-pub offset_bounds-row-i : goal.offset_bounds-row-i
-offset_bounds-row-i c = omega arith
-
-pub bounds-row-i : goal.bounds-row-i
-bounds-row-i c = omega (arith, stored_length c.loop-i.invariant)
-
-pub overflow_add-i : goal.overflow_add-i
-overflow_add-i c = omega arith
-
-pub loop-i-smaller : goal.loop-i-smaller
-loop-i-smaller c = omega arith
-
 pub loop-i-preserved : goal.loop-i-preserved
 loop-i-preserved c =
     let long : length c.args.o.levels ≡ places.level_count = search rules in
