@@ -51,8 +51,20 @@ class Function:
         self.said.append(f"no goal for {tie_name}")
         return None, None
 
-    def resolve(self, place, comps):
-        """A path from a place: ('place', P) where it only climbs, else ('term', text)."""
+    def covers(self, goal):
+        """For each place from a goal's own upward: the arm that has taken its step in, or None. An arm counts the steps that it takes."""
+        out, arm, left, at = {}, None, 0, goal
+        while at is not None:
+            if left == 0:
+                arm, left = (self.arms[at], self.arms[at][1]) if self.arms.get(at) else (None, 1)
+            out[at] = arm
+            left -= 1
+            at = self.places[at][1]
+        return out
+
+    def resolve(self, goal, place, comps):
+        """A path of a goal, from a place: ('place', P) where it only climbs, else ('term', text)."""
+        covers = self.covers(goal)
         i = 0
         while i < len(comps) and comps[i] == "before":
             parent = self.places[place][1]
@@ -71,16 +83,13 @@ class Function:
         while at is not None:
             old, new = self.places[at][2]
             if norm(old) == norm(x):
-                arm = self.arms.get(at)
-                if arm:
-                    best = None
-                    for field, step, path in arm[2]:
-                        if norm(step) == norm(x) and rest[:len(path)] == path and (best is None or len(path) > len(best[1])):
-                            best = (field, path)
-                    if best and best[1]:
-                        return "term", ".".join(["c", arm[0], best[0]] + rest[len(best[1]):])
-                    if best:
-                        return "term", ".".join(["c", new] + rest)
+                arm = covers[at]
+                best = None
+                for field, step, path in arm[2] if arm else []:
+                    if norm(step) == norm(x) and rest[:len(path)] == path and (best is None or len(path) > len(best[1])):
+                        best = (field, path)
+                if best:
+                    return "term", ".".join(["c", arm[0], best[0]] + rest[len(best[1]):])
                 return "term", ".".join(["c", new] + rest)
             at = self.places[at][1]
         bare = re.sub(r"-?\d+$", "", norm(x))
@@ -96,7 +105,7 @@ class Function:
         for line in text.split("\n"):
             m = re.match(r"^(\s*)(.*?)let ([A-Za-z_][\w'₀-]*) = (c|[A-Za-z_][\w'₀-]*)((?:\.before)*) in\s*(.*)$", line)
             if m and m.group(4) in alias and not m.group(2):
-                kind, p = self.resolve(alias[m.group(4)], [c for c in m.group(5).split(".") if c])
+                kind, p = self.resolve(place, alias[m.group(4)], [c for c in m.group(5).split(".") if c])
                 alias[m.group(3)] = p
                 if not m.group(6):
                     continue
@@ -107,7 +116,7 @@ class Function:
                 if head not in alias:
                     return m.group(0)
                 comps = m.group(2)[1:].split(".")
-                kind, t = self.resolve(alias[head], comps)
+                kind, t = self.resolve(place, alias[head], comps)
                 if kind == "place":
                     self.said.append("a place is passed on: " + m.group(0))
                     return "c"
@@ -125,9 +134,8 @@ class Function:
             return None
         for ((old, new), names), changed in zip(self.loops, self.changed):
             if norm(old) == norm(m.group(2)):
-                same = [n for n, c in zip(names, changed) if not c]
-                moved = [n for n, c in zip(names, changed) if c]
-                order = ["l." + n for n in same] + ["l.initial." + n for n in moved] + ["l." + n for n in moved]
+                order = [("l.initial." if c else "l.") + n for n, c in zip(names, changed)]
+                order += ["l." + n for n, c in zip(names, changed) if c]
                 return m.group(1) + "-" + new, order
         self.said.append(f"no loop for {tie_name}")
         return None
@@ -175,6 +183,9 @@ def used(uses, text):
             if "◌" in name:
                 parts = [p for p in name.split("◌") if p]
                 if all(p in words for p in parts):
+                    names.append(n)
+            elif name == "[]":
+                if "[]" in text:
                     names.append(n)
             elif name in words:
                 names.append(n)
