@@ -227,7 +227,8 @@ def turn(path, names, crate, where):
                 continue
             notes = [h for h in head if h.startswith("--")]
             opens = [h for h in head if h.startswith("unfolding")]
-            answers.append("\n".join(notes + [f"pub {new} : goal.{new}"] + opens + [text]))
+            clause, _, rest = text.partition(" =")
+            answers.append(("\n".join(notes + [f"pub {new} : goal.{new}"] + opens + [clause + " ="]), rest))
         else:
             l = f.loop(goal.split(" ")[0])
             if l is None:
@@ -248,7 +249,7 @@ def turn(path, names, crate, where):
             out = re.sub(r"(?<![\w.'₀-])([A-Za-z_][\w'₀]*(?:-[\w'₀]+)*)(?![\w'₀-])", lambda k: table.get(k.group(1), k.group(1)), m2.group(2))
             invariants.append("\n".join([h for h in head if h.startswith("--")] + [f"abbrev pub {new} : goal.{new}"] + [h for h in head if h.startswith("unfolding")] + [f"{new} l = " + out]))
     # an answer that cites another one
-    answers = [words(a, renamed) for a in answers]
+    answers = [a if isinstance(a, str) else a[0] + words(a[1], renamed) for a in answers]
     folder = os.path.dirname(path)
     module = f"Rattle.{crate}.proofs.{where}"
     if invariants:
