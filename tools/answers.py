@@ -24,7 +24,10 @@ def norm(x):
 
 def key(x):
     k = norm(x)
-    return k[len("overflow-"):] if k.startswith("overflow-") else k
+    for made in ("overflow-", "nonzero-"):
+        if k.startswith(made):
+            return k[len(made):]
+    return k
 
 
 class Function:
@@ -211,6 +214,9 @@ def turn(path, names, crate, where):
         name, goal = m.group(1), m.group(2)
         if goal.startswith("Need-"):
             new, place = f.need(goal[5:])
+            if new is None and re.search(r"κs? =\s*search rules$| c =\s*search rules$", joined):
+                f.said.pop()
+                continue
             if new is None:
                 answers.append(joined)
                 continue
