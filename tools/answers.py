@@ -212,7 +212,7 @@ def turn(path, names, crate, where):
             head = [l for l in rest if l.startswith(("--", "unfolding"))]
             body = [l for l in rest if not l.startswith(("--", "unfolding"))]
             text = "\n".join(body)
-            text = re.sub(r"^" + re.escape(name) + r" c(?: κs)? =", new + " c =", text)
+            text = re.sub(r"^" + re.escape(name) + r" c(?: κs)?(?= )", lambda k: new + " c", text, flags=re.M)
             text = f.body(text, place)
             if re.sub(r"\s+", " ", text) == new + " c = search rules":
                 continue
