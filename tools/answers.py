@@ -259,7 +259,7 @@ def turn(path, names, crate, where, params):
             head = [l for l in rest if l.startswith(("--", "unfolding"))]
             body = [l for l in rest if not l.startswith(("--", "unfolding"))]
             text = "\n".join(body)
-            text = re.sub(r"^" + re.escape(name) + r" c(?: κs)? =", new + " c =", text)
+            text = re.sub(r"^" + re.escape(name) + r" c(?: κs)?(?= )", lambda k: new + " c", text, flags=re.M)
             clause, _, right = text.partition(" =")
             f.opened = set()
             right, lets = f.body(right, place)
