@@ -95,6 +95,12 @@ class Function:
                 callee = self.params.get(self.places[at][3], [])
                 if len(rest) > 1 and rest[0] == "new" and rest[1].isdigit() and int(rest[1]) < len(callee):
                     rest = ["new", callee[int(rest[1])]] + rest[2:]
+                if rest and rest[0] == "auto":
+                    k = 1
+                    while k < len(rest) and rest[k] == "1":
+                        k += 1
+                    if k < len(rest) and rest[k] == "0" and k - 1 < len(callee):
+                        rest = ["auto", callee[k - 1]] + rest[k + 1:]
                 arm = covers[at]
                 best = None
                 for field, step, path in arm[2] if arm else []:
