@@ -93,14 +93,12 @@ class Function:
             old, new = self.places[at][2]
             if norm(old) == norm(x):
                 callee = self.params.get(self.places[at][3], [])
-                if len(rest) > 1 and rest[0] == "new" and rest[1].isdigit() and int(rest[1]) < len(callee):
-                    rest = ["new", callee[int(rest[1])]] + rest[2:]
-                if rest and rest[0] == "auto":
+                if rest and rest[0] in ("new", "auto"):
                     k = 1
                     while k < len(rest) and rest[k] == "1":
                         k += 1
                     if k < len(rest) and rest[k] == "0" and k - 1 < len(callee):
-                        rest = ["auto", callee[k - 1]] + rest[k + 1:]
+                        rest = [rest[0], callee[k - 1]] + rest[k + 1:]
                 arm = covers[at]
                 best = None
                 for field, step, path in arm[2] if arm else []:
@@ -222,7 +220,7 @@ def used(uses, text):
             name = n.split(" as ")[-1]
             if "◌" in name:
                 parts = [p for p in name.split("◌") if p]
-                if all(p in words for p in parts):
+                if name in words or all(p in words for p in parts):
                     names.append(n)
             elif name == "[]":
                 if "[]" in text:
@@ -272,7 +270,7 @@ def turn(path, names, crate, where, params):
             if lets:
                 right = "\n    " + "\n    ".join(lets.values()) + "\n    " + right.strip()
             text = clause + " =" + right
-            if re.sub(r"\s+", " ", text) == new + " c = search rules":
+            if re.sub(r"\s+", " ", text) in (new + " c = search rules", new + " c = tt"):
                 continue
             notes = [h for h in head if h.startswith("--")]
             opens = [h for h in head if h.startswith("unfolding")]
