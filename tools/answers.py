@@ -117,8 +117,18 @@ class Function:
     def body(self, text, goal, place=None):
         """The answer's text with its paths resolved; names that stand for places are written out, and lemmas on a place become typed lets."""
         alias = {"c": place or goal}
+        prefix = {}
         lines, lets = [], {}
         for line in text.split("\n"):
+            # a step that was matched on, or whose parts go by number: its name is written out
+            m = re.match(r"^(\s*)let ([A-Za-z_][\w'₀-]*) = (c|[A-Za-z_][\w'₀-]*)((?:\.[\w'₀-]+)+) in\s*$", line)
+            if m and m.group(3) in alias and m.group(3) not in prefix:
+                path = m.group(4)[1:].split(".")
+                step = [x for x in path if x != "before"]
+                if path[-1] == "given" or len(step) == 1 and re.search(r"(?<![\w.'-])" + re.escape(m.group(2)) + r"\.(?:new|auto|given)\.", text):
+                    alias[m.group(2)] = alias[m.group(3)]
+                    prefix[m.group(2)] = path
+                    continue
             m = re.match(r"^(\s*)(.*?)let ([A-Za-z_][\w'₀-]*) = (c|[A-Za-z_][\w'₀-]*)((?:\.before)*) in\s*(.*)$", line)
             if m and m.group(4) in alias and not m.group(2):
                 kind, p = self.resolve(goal, alias[m.group(4)], [c for c in m.group(5).split(".") if c])
@@ -141,7 +151,7 @@ class Function:
                 head = m.group(1)
                 if head not in alias:
                     return m.group(0)
-                comps = m.group(2)[1:].split(".")
+                comps = prefix.get(head, []) + m.group(2)[1:].split(".")
                 kind, t = self.resolve(goal, alias[head], comps)
                 if kind == "place":
                     self.said.append("a place is passed on: " + m.group(0))

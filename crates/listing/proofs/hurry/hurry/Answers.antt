@@ -26,7 +26,7 @@ returns-then-not-ready c =
 pub hasten-h-requires : goal.hasten-h-requires
 hasten-h-requires c =
     let f = c.loop-levels.invariant.2.fair in
-    (c.depth-d.ensures, sym c.ready.ensures ∙ not-false _ c.if-not-ready.false, f.sound, line_room _ _ (board_now c.args.b c.loop-levels.core c.loop-levels.levels c.loop-levels.ring) _ _ _ _ f)
+    (c.depth-d.ensures, sym c.ready.ensures ∙ c.if-not-ready.false, f.sound, line_room _ _ (board_now c.args.b c.loop-levels.core c.loop-levels.levels c.loop-levels.ring) _ _ _ _ f)
 
 pub overflow_add-number : goal.overflow_add-number
 overflow_add-number c =

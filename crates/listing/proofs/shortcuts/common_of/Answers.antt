@@ -6,10 +6,8 @@ use Rattle.listing.proofs.shortcuts.common_of.Goals as goal
 
 pub returns-in-Write : goal.returns-in-Write
 returns-in-Write c =
-    let n = c.n-1.given in
-    c.written.ensures ∙ sym (ap common_of (n.1 ∙ ap (λ (e : Event). Found e n.0.1.0) c.in-Write.is))
+    c.written.ensures ∙ sym (ap common_of (c.in-Found.is ∙ ap (λ (e : Event). Found e c.in-Found.after) c.in-Write.is))
 
 pub returns-in-Signal : goal.returns-in-Signal
 returns-in-Signal c =
-    let n = c.n-1.given in
-    c.signalled.ensures ∙ sym (ap common_of (n.1 ∙ ap (λ (e : Event). Found e n.0.1.0) c.in-Signal.is))
+    c.signalled.ensures ∙ sym (ap common_of (c.in-Found.is ∙ ap (λ (e : Event). Found e c.in-Found.after) c.in-Signal.is))

@@ -40,21 +40,18 @@ overflow_add-number c =
 
 pub loop-e-smaller : goal.loop-e-smaller
 loop-e-smaller c =
-    let n = c.n-1.given in
     let h = c.hurry-q.ensures in
-    omega (arith, h.walked.nearer, way_ends c.args.s.now h.cursor n.0.1.0 n.0.0 (sym h.stands ∙ n.1))
+    omega (arith, h.walked.nearer, way_ends c.args.s.now h.cursor c.in-Found.after c.in-Found.e (sym h.stands ∙ c.in-Found.is))
 
 pub loop-e-preserved : goal.loop-e-preserved
 loop-e-preserved c =
     let l = c.loop-e in
-    let n = c.n-1.given in
     let h = c.hurry-q.ensures in
     let f = h.walked.fair in
-    let put = c.put_line-at in
-    let line = printed_piece put.ensures (line_room _ _ c.hurry-q.result.board _ _ _ _ f) in
-    let on = walked_on _ h.cursor c.hurry-q.result.board _ _ _ _ f n.0.1.0 n.0.0 (sym h.stands ∙ n.1) _ _ _ _ c.step-r.ensures line in (
+    let line = printed_piece c.put_line-at.ensures (line_room _ _ c.hurry-q.result.board _ _ _ _ f) in
+    let on = walked_on _ h.cursor c.hurry-q.result.board _ _ _ _ f c.in-Found.after c.in-Found.e (sym h.stands ∙ c.in-Found.is) _ _ _ _ c.step-r.ensures line in (
       c.step-r.auto.memory ∙ c.hurry-q.auto.memory ∙ l.invariant.0,
-      put.auto.0 ∙ c.hurry-q.auto.out ∙ l.invariant.1,
+      c.put_line-at.auto.out ∙ c.hurry-q.auto.out ∙ l.invariant.1,
       walked_then _ _ _ _ _ _ _ l.invariant.2 (walked_then _ _ _ _ _ _ _ h.walked on),
     )
 
@@ -62,10 +59,9 @@ pub put_end-requires : goal.put_end-requires
 put_end-requires c =
     let s = c.args.s.now in
     let h = c.hurry-q.ensures in
-    let n = c.n-in-Over-1.given in
-    let stood = end_stood s h.cursor n.0.0 (sym h.stands ∙ n.1) in
+    let stood = end_stood s h.cursor c.in-Over.end (sym h.stands ∙ c.in-Over.is) in
     let there = given_within s h.cursor.place _ ((item_exactly s h.cursor.place _).0 stood) in
-    (tail_room _ _ c.hurry-q.result.board _ _ _ _ h.walked.fair, in_reach s n.0.0 c.requires.0 there)
+    (tail_room _ _ c.hurry-q.result.board _ _ _ _ h.walked.fair, in_reach s c.in-Over.end c.requires.0 there)
 
 pub shape_of-memory-in-Over : goal.shape_of-memory-in-Over
 shape_of-memory-in-Over c =
@@ -79,11 +75,9 @@ pub returns-in-Over : goal.returns-in-Over
 returns-in-Over c =
     let a = c.args in
     let h = c.hurry-q.ensures in
-    let n = c.n-in-Over-1.given in
-    let put = c.put_end in
     let all = walked_then _ _ _ _ _ _ _ c.loop-e.invariant.2 h.walked in
-    let w = walked_over a.s.now _ h.cursor _ n.0.0 put.new.0 put.result all (sym h.stands ∙ n.1) put.ensures in
+    let w = walked_over a.s.now _ h.cursor _ c.in-Over.end c.put_end.new.out c.put_end.result all (sym h.stands ∙ c.in-Over.is) c.put_end.ensures in
     let dark = ap (λ (b : Board). state_of b a.memory.now) c.unpowered-b.ensures.told in (
-      subst (λ (st : State). Piece a.out.now a.start (body 1 st (session a.s.now)) put.new.0 put.result) dark w.text,
+      subst (λ (st : State). Piece a.out.now a.start (body 1 st (session a.s.now)) c.put_end.new.out c.put_end.result) dark w.text,
       w.memory ∙ ap (λ (st : State). (after st (session a.s.now).events).memory) dark,
     )
