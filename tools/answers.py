@@ -14,6 +14,7 @@ import sys
 
 PLAIN = {"args", "requires", "ranges", "well_formed", "lifetimes", "type_inv"}
 PATH = re.compile(r"(?<![\w.'₀-])([A-Za-z_][\w'₀]*(?:[-_][\w'₀]+)*)((?:\.[\w'₀-]+)+)")
+ARG = r"(\([A-Za-z_][\w'₀.-]*\)|[A-Za-z_][\w'₀-]*(?:\.before)*(?![\w.'₀-]))"
 TOKEN = re.compile(r"[^\s(){}\[\];,.\"`]+")
 
 
@@ -43,6 +44,9 @@ class Function:
         self.loops = names["loops"]
         self.changed = names["changed"]
         self.said = []
+        self.renamed = dict(names["args"])
+        self.helpers = {}
+        self.named, self.hoisted, self.kept = {}, [], []
 
     def need(self, tie_name):
         k = key(tie_name)
@@ -78,11 +82,15 @@ class Function:
         x, rest = comps[i], comps[i + 1:]
         if x.replace("-", "_") in PLAIN:
             x = x.replace("-", "_")
+            if rest and f".{x} .{rest[0]}" in self.renamed:
+                rest[0] = self.renamed[f".{x} .{rest[0]}"].split(".")[-1]
             return "term", ".".join(["c", x] + rest)
         at = place
         while at is not None:
             old, new = self.places[at][2]
             if norm(old) == norm(x):
+                if rest[:1] == ["new"] and self.places[at][3]:
+                    rest = ["new"] + lent(self.places[at][3], rest[1:])
                 arm = covers[at]
                 best = None
                 for field, step, path in arm[2] if arm else []:
@@ -95,18 +103,23 @@ class Function:
         self.said.append(f"no step {x} at {place}: " + ".".join(comps))
         return "term", ".".join(["c"] + comps[i:])
 
-    def body(self, text, place):
-        """The answer's text with its paths resolved; names that stand for places are written out."""
-        alias = {"c": place}
+    def body(self, text, place, alias=None):
+        """An answer's text with its paths resolved; names that stand for places are written out. What it cites of the file's helpers goes
+        to self.hoisted, as lets."""
+        alias = dict(alias or {"c": place})
         lines = []
         for line in text.split("\n"):
-            m = re.match(r"^(\s*)(.*?)let ([A-Za-z_][\w'₀-]*) = (c|[A-Za-z_][\w'₀-]*)((?:\.before)*) in\s*(.*)$", line)
-            if m and m.group(4) in alias and not m.group(2):
-                kind, p = self.resolve(place, alias[m.group(4)], [c for c in m.group(5).split(".") if c])
-                alias[m.group(3)] = p
-                if not m.group(6):
-                    continue
-                line = m.group(1) + m.group(6)
+            line = self.places_named(line, place, alias)
+            while True:
+                m = re.match(r"^(\s*)let ([A-Za-z_][\w'₀-]*) = ([A-Za-z_][\w'₀-]*)((?:\.before)*) in\s*(.*)$", line)
+                if not m or m.group(3) not in alias:
+                    break
+                kind, p = self.resolve(place, alias[m.group(3)], [c for c in m.group(4).split(".") if c])
+                alias[m.group(2)] = p
+                line = m.group(1) + m.group(5)
+            if not line.strip():
+                continue
+            line = self.helped(line, place, alias)
 
             def turn(m):
                 head = m.group(1)
@@ -120,9 +133,76 @@ class Function:
                 return t
             lines.append(PATH.sub(turn, line))
         for a in alias:
-            if a != "c" and any(re.search(r"(?<![\w.'-])" + re.escape(a) + r"(?![\w'.-])", l) for l in lines):
+            if a != "c" and any(re.search(r"(?<![\w.'-])" + re.escape(a) + r"(?![\w'.-]| =)", l) for l in lines):
                 self.said.append(f"the place {a} is passed on")
-        return "\n".join(lines)
+        out = "\n".join(lines)
+        while True:
+            turned = re.sub(r"⟦(\d+)⟧", lambda m: self.kept[int(m.group(1))], out)
+            if turned == out:
+                return out
+            out = turned
+
+    def place_of(self, arg, place, alias):
+        """The place that an argument of a helper is, or None."""
+        m = re.match(r"^\(?([A-Za-z_][\w'₀-]*)((?:\.before)*)\)?$", arg)
+        if not m or m.group(1) not in alias:
+            return None
+        kind, p = self.resolve(place, alias[m.group(1)], [c for c in m.group(2).split(".") if c])
+        return p if kind == "place" else None
+
+    def places_named(self, line, place, alias):
+        """Calls of helpers that answer a place, each as a new name for that place."""
+        for name, h in self.helpers.items():
+            if h["kind"] != "place":
+                continue
+            while True:
+                m = re.search(r"\(" + re.escape(name) + " " + ARG + r"\)|(?<![\w.'₀-])" + re.escape(name) + " " + ARG, line)
+                at = m and self.place_of(m.group(1) or m.group(2), place, alias)
+                if not at:
+                    break
+                kind, p = self.resolve(place, at, [c for c in h["text"].split(".")[1:]])
+                new = f"place{len(alias)}of"
+                alias[new] = p
+                line = line[:m.start()] + new + line[m.end():]
+        return line
+
+    def helped(self, line, place, alias):
+        """Calls of helpers that answer a value: an abbreviation is written out, a proof becomes a let."""
+        for name, h in self.helpers.items():
+            if h["kind"] == "place":
+                continue
+            while True:
+                m = re.search(r"(?<![\w.'₀-])" + re.escape(name) + " " + ARG, line)
+                at = m and self.place_of(m.group(1), place, alias)
+                if not at:
+                    break
+                inner = {h["binder"]: at}
+                if h["kind"] == "short":
+                    self.kept.append("(" + self.body(h["text"], place, inner) + ")")
+                    said = f"⟦{len(self.kept) - 1}⟧"
+                else:
+                    said = self.hoist(name, h, at, place, inner)
+                line = line[:m.start()] + said + line[m.end():]
+        return line
+
+    def hoist(self, name, h, at, place, inner):
+        if (name, at) not in self.named:
+            body = self.body(h["text"], place, inner)
+            said = self.body(h["type"], place, inner)
+            same = sum(1 for n, p in self.named if n == name)
+            self.named[(name, at)] = name + (f"-{same + 1}" if same else "")
+            self.hoisted.append(f"    let {self.named[(name, at)]} : {said} = {body} in")
+        return self.named[(name, at)]
+
+    def answer(self, text, place):
+        """The whole of an answer: its lets first."""
+        self.named, self.hoisted, self.kept = {}, [], []
+        out = self.body(text, place)
+        if self.hoisted:
+            head, rest = out.split("=", 1)
+            rest = rest.strip("\n") if rest.startswith("\n") else "    " + rest.strip()
+            out = head + "=\n" + "\n".join(self.hoisted) + "\n" + rest
+        return out
 
     def loop(self, tie_name):
         """(new name, the variables by position) of `invariant-loop`, `decreases-loop2` .."""
@@ -136,6 +216,62 @@ class Function:
                 return m.group(1) + "-" + new, order
         self.said.append(f"no loop for {tie_name}")
         return None
+
+
+SOURCES = {}
+
+
+def lent(callee, path):
+    """A path into what a callee left in its `&mut` parameters, `0`, `1.0`, `1.1.0` .., by the parameter's name."""
+    crate = callee.split("::")[0]
+    if crate not in SOURCES:
+        SOURCES[crate] = ""
+        for at, dirs, files in os.walk(os.path.join("crates", crate, "src")):
+            for name in sorted(files):
+                with open(os.path.join(at, name), encoding="utf-8") as h:
+                    SOURCES[crate] += h.read()
+    m = re.search(r"\bfn " + re.escape(callee.split("::")[-1]) + r"\b[^(]*\(([^)]*)\)", SOURCES[crate])
+    names = re.findall(r"(\w+): &(?:'\w+ )?mut\b", m.group(1)) if m else []
+    n = 0
+    while path[n:n + 1] == ["1"]:
+        n += 1
+    if path[n:n + 1] == ["0"] and n < len(names):
+        return [names[n]] + path[n + 1:]
+    return path
+
+
+def helper(joined):
+    """A lemma or an abbreviation over a place, as (name, what it is), or None."""
+    text = "\n".join(l for l in joined.split("\n") if not l.startswith("--"))
+    m = re.match(r"^(?:abbrev )?(?:pub )?(\S+) : tie\.[^→]*→([^\n]*)\n(?:unfolding [^\n]*\n)?\1 (\S+) =\s*([\s\S]*)$", text)
+    if m:
+        if m.group(2).strip().startswith("tie."):
+            return m.group(1), {"kind": "place", "binder": m.group(3), "text": m.group(4)}
+        return m.group(1), {"kind": "short", "binder": m.group(3), "text": m.group(4)}
+    m = re.match(r"^(?:pub )?(\S+) : \((\S+) : tie\.[^)]*\)\s*→([\s\S]*?)\n(?:unfolding [^\n]*\n)?\1 (\S+) =\s*([\s\S]*)$", text)
+    if m:
+        said = m.group(3).replace(m.group(2) + ".", m.group(4) + ".") if m.group(2) != m.group(4) else m.group(3)
+        return m.group(1), {"kind": "proof", "binder": m.group(4), "text": m.group(5), "type": re.sub(r"\s+", " ", said).strip()}
+    return None
+
+
+def in_order(answers, new_names):
+    """Names of answers that answers cite, as they are now; and each below those that it cites."""
+    out = []
+    for name, text in answers:
+        for old, new in new_names.items():
+            if old != new:
+                text = re.sub(r"(?<![\w.'₀-])" + re.escape(old) + r"(?= c\b)(?! c =)", "⟨" + new + "⟩", text)
+        out.append((name, text.replace("⟨", "").replace("⟩", "")))
+    done, left = [], out
+    while left:
+        names = {n for n, t in left if n}
+        now = [(n, t) for n, t in left if not any(m != n and re.search(r"(?<![\w.'₀-])" + re.escape(m) + r" c\b", t) for m in names)]
+        if not now:
+            return [t for n, t in done + left]
+        done.append(now[0])
+        left.remove(now[0])
+    return [t for n, t in done]
 
 
 def split(text):
@@ -192,37 +328,43 @@ def turn(path, names, crate, where):
     with open(path, encoding="utf-8") as h:
         comments, uses, blocks = split(h.read())
     uses = [u for u in uses if ".Statement." not in u and not u.endswith("Tie as tie")]
-    invariants, answers = [], []
+    invariants, answers, new_names = [], [], {}
+    for b in blocks:
+        h = helper("\n".join(b))
+        if h:
+            f.helpers[h[0]] = h[1]
     for b in blocks:
         joined = "\n".join(b)
+        if helper(joined):
+            continue
         if re.search(r"^pub \S+ : \{M : Type 1\}", joined, re.M):
             continue
         m = re.search(r"^(?:abbrev )?(?:pub )?(\S+) : tie\.(\S+)(.*)$", joined, re.M)
         if not m:
-            answers.append(joined)
+            answers.append((None, joined))
             continue
         name, goal = m.group(1), m.group(2)
         if goal.startswith("Need-"):
             new, place = f.need(goal[5:])
             if new is None:
-                answers.append(joined)
                 continue
+            new_names[name] = new
             lines = joined.split("\n")
             rest = [l for l in lines if not re.match(r"^(?:pub )?\S+ : tie\.", l)]
             head = [l for l in rest if l.startswith(("--", "unfolding"))]
             body = [l for l in rest if not l.startswith(("--", "unfolding"))]
             text = "\n".join(body)
             text = re.sub(r"^" + re.escape(name) + r" c(?: κs)?(?= )", lambda k: new + " c", text, flags=re.M)
-            text = f.body(text, place)
+            text = f.answer(text, place)
             if re.sub(r"\s+", " ", text) == new + " c = search rules":
                 continue
             notes = [h for h in head if h.startswith("--")]
             opens = [h for h in head if h.startswith("unfolding")]
-            answers.append("\n".join(notes + [f"pub {new} : goal.{new}"] + opens + [text]))
+            answers.append((new, "\n".join(notes + [f"pub {new} : goal.{new}"] + opens + [text])))
         else:
             l = f.loop(goal.split(" ")[0])
             if l is None:
-                answers.append(joined)
+                answers.append((None, joined))
                 continue
             new, order = l
             lines = joined.split("\n")
@@ -233,7 +375,7 @@ def turn(path, names, crate, where):
             params = m2.group(1).split()
             if len(params) != len(order):
                 f.said.append(f"{name}: {len(params)} parameters, and {len(order)} variables")
-                answers.append(joined)
+                answers.append((None, joined))
                 continue
             table = dict(zip(params, order))
             out = re.sub(r"(?<![\w.'₀-])([A-Za-z_][\w'₀]*(?:-[\w'₀]+)*)(?![\w'₀-])", lambda k: table.get(k.group(1), k.group(1)), m2.group(2))
@@ -246,7 +388,7 @@ def turn(path, names, crate, where):
             h.write("\n".join(comments + used(uses, text) + [f"use {module}.Given as goal"]) + "\n\n" + text + "\n")
         comments = []
     if answers:
-        text = "\n\n".join(answers)
+        text = "\n\n".join(in_order(answers, new_names))
         with open(os.path.join(folder, "Answers.antt"), "w", encoding="utf-8") as h:
             h.write("\n".join(comments + used(uses, text) + [f"use {module}.Goals as goal"]) + "\n\n" + text + "\n")
     os.remove(path)
