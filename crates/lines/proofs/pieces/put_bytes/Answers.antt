@@ -1,0 +1,24 @@
+use mathlib.Core.Path.{refl}
+use native.Mathlib.Numerals.{add-one}
+use native.Mathlib.Omega.{arith}
+use lib.Seq.{take_all, take-suc}
+use Rattle.file_rules.proofs.Joined.{then, piece_length}
+use Rattle.lines.proofs.pieces.put_bytes.Goals as goal
+
+pub loop-i-init : goal.loop-i-init
+loop-i-init c = (omega arith, record { place = refl; text = refl })
+
+pub loop-i-preserved : goal.loop-i-preserved
+loop-i-preserved c =
+    let l = c.loop-i in
+    let text = c.args.text.now in
+    let grown = take-suc text l.i 0 c.loop-i-test.true in
+    (omega arith, rw (add-one, grown) (then l.invariant.1 (record { place = omega arith; text = refl })))
+
+pub returns : goal.returns
+returns c =
+    let l = c.loop-i in
+    rw (take_all l.i c.args.text.now (omega arith)) at l.invariant.1
+
+pub shape_of-out : goal.shape_of-out
+shape_of-out c = piece_length (returns c)
