@@ -15,6 +15,8 @@ import sys
 PLAIN = {"args", "requires", "ranges", "well_formed", "lifetimes", "type_inv"}
 PATH = re.compile(r"(?<![\w.'₀-])([A-Za-z_][\w'₀]*(?:[-_][\w'₀]+)*)((?:\.[\w'₀-]+)+)")
 ARG = r"(\([A-Za-z_][\w'₀.-]*\)|[A-Za-z_][\w'₀-]*(?:\.before)*(?![\w.'₀-]))"
+# behind a helper's name that is a let already
+DONE = "\u2060"
 TOKEN = re.compile(r"[^\s(){}\[\];,.\"`]+")
 
 
@@ -46,7 +48,7 @@ class Function:
         self.said = []
         self.renamed = dict(names["args"])
         self.helpers = {}
-        self.named, self.hoisted, self.kept = {}, [], []
+        self.named, self.hoisted = {}, []
 
     def need(self, tie_name):
         k = key(tie_name)
@@ -135,12 +137,7 @@ class Function:
         for a in alias:
             if a != "c" and any(re.search(r"(?<![\w.'-])" + re.escape(a) + r"(?![\w'.-]| =)", l) for l in lines):
                 self.said.append(f"the place {a} is passed on")
-        out = "\n".join(lines)
-        while True:
-            turned = re.sub(r"⟦(\d+)⟧", lambda m: self.kept[int(m.group(1))], out)
-            if turned == out:
-                return out
-            out = turned
+        return "\n".join(lines)
 
     def place_of(self, arg, place, alias):
         """The place that an argument of a helper is, or None."""
@@ -167,7 +164,7 @@ class Function:
         return line
 
     def helped(self, line, place, alias):
-        """Calls of helpers that answer a value: an abbreviation is written out, a proof becomes a let."""
+        """Calls of helpers that answer a value: each becomes a let."""
         for name, h in self.helpers.items():
             if h["kind"] == "place":
                 continue
@@ -177,12 +174,11 @@ class Function:
                 if not at:
                     break
                 inner = {h["binder"]: at}
-                if h["kind"] == "short":
-                    self.kept.append("(" + self.body(h["text"], place, inner) + ")")
-                    said = f"⟦{len(self.kept) - 1}⟧"
-                else:
-                    said = self.hoist(name, h, at, place, inner)
-                line = line[:m.start()] + said + line[m.end():]
+                said = self.hoist(name, h, at, place, inner)
+                start, end = m.start(), m.end()
+                if line[start - 1:start] == "(" and line[end:end + 1] == ")":
+                    start, end = start - 1, end + 1
+                line = line[:start] + said + DONE + line[end:]
         return line
 
     def hoist(self, name, h, at, place, inner):
@@ -196,13 +192,15 @@ class Function:
 
     def answer(self, text, place):
         """The whole of an answer: its lets first."""
-        self.named, self.hoisted, self.kept = {}, [], []
+        self.named, self.hoisted = {}, []
+        text = re.sub(r"^(\S+ c[^=\n]*=) (let )", r"\1\n    \2", text)
         out = self.body(text, place)
         if self.hoisted:
             head, rest = out.split("=", 1)
             rest = rest.strip("\n") if rest.startswith("\n") else "    " + rest.strip()
             out = head + "=\n" + "\n".join(self.hoisted) + "\n" + rest
-        return out
+        # a test of `!x` said `not x` before, and says what x is
+        return re.sub(r"not-(?:true|false) _ (c\.if-not-[\w.'-]+)", r"\1", out.replace(DONE, ""))
 
     def loop(self, tie_name):
         """(new name, the variables by position) of `invariant-loop`, `decreases-loop2` .."""
@@ -245,13 +243,13 @@ def helper(joined):
     text = "\n".join(l for l in joined.split("\n") if not l.startswith("--"))
     m = re.match(r"^(?:abbrev )?(?:pub )?(\S+) : tie\.[^→]*→([^\n]*)\n(?:unfolding [^\n]*\n)?\1 (\S+) =\s*([\s\S]*)$", text)
     if m:
-        if m.group(2).strip().startswith("tie."):
-            return m.group(1), {"kind": "place", "binder": m.group(3), "text": m.group(4)}
-        return m.group(1), {"kind": "short", "binder": m.group(3), "text": m.group(4)}
-    m = re.match(r"^(?:pub )?(\S+) : \((\S+) : tie\.[^)]*\)\s*→([\s\S]*?)\n(?:unfolding [^\n]*\n)?\1 (\S+) =\s*([\s\S]*)$", text)
+        kind = "place" if m.group(2).strip().startswith("tie.") else "value"
+        return m.group(1), {"kind": kind, "binder": m.group(3), "text": m.group(4), "type": m.group(2).strip()}
+    m = re.match(r"^(?:pub )?(\S+) : \((\S+) : tie\.[^)]*\)\s*(?:→\s*)?([\s\S]*?)\n(?:unfolding [^\n]*\n)?\1 (\S+)((?: [^\s=]+)*) =\s*([\s\S]*)$", text)
     if m:
         said = m.group(3).replace(m.group(2) + ".", m.group(4) + ".") if m.group(2) != m.group(4) else m.group(3)
-        return m.group(1), {"kind": "proof", "binder": m.group(4), "text": m.group(5), "type": re.sub(r"\s+", " ", said).strip()}
+        more = f"λ{m.group(5)}. " if m.group(5) else ""
+        return m.group(1), {"kind": "value", "binder": m.group(4), "text": more + m.group(6), "type": re.sub(r"\s+", " ", said).strip()}
     return None
 
 
@@ -359,7 +357,7 @@ def turn(path, names, crate, where):
             if re.sub(r"\s+", " ", text) == new + " c = search rules":
                 continue
             notes = [h for h in head if h.startswith("--")]
-            opens = [h for h in head if h.startswith("unfolding")]
+            opens = ["unfolding " + " ".join(n for n in h.split()[1:] if n not in f.helpers) for h in head if h.startswith("unfolding")]
             answers.append((new, "\n".join(notes + [f"pub {new} : goal.{new}"] + opens + [text])))
         else:
             l = f.loop(goal.split(" ")[0])
