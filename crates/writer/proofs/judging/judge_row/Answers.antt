@@ -17,12 +17,12 @@ returns-then-n-ne0 c =
 
 pub overflow_sub-result : goal.overflow_sub-result
 overflow_sub-result c =
-    let good : (1 ≤ c.length_of.result) × JudgesRow c.args.rows.now c.args.at 0 (c.length_of.result - 1) =     row_judged c.args.rows.now c.args.at c.requires _ c.row_at-row.ensures
+    let good : (1 ≤ c.length_of.result) × JudgesRow c.args.rows.now c.args.at 0 (c.length_of.result - 1) = row_judged c.args.rows.now c.args.at c.requires _ c.row_at-row.ensures
     (sym c.row_refusal-n.ensures ∙ c.if-n-ne0.false) _ c.length_of.ensures.told in
     good.0
 
 pub returns : goal.returns
 returns c =
-    let good : (1 ≤ c.length_of.result) × JudgesRow c.args.rows.now c.args.at 0 (c.length_of.result - 1) =     row_judged c.args.rows.now c.args.at c.requires _ c.row_at-row.ensures
+    let good : (1 ≤ c.length_of.result) × JudgesRow c.args.rows.now c.args.at 0 (c.length_of.result - 1) = row_judged c.args.rows.now c.args.at c.requires _ c.row_at-row.ensures
     (sym c.row_refusal-n.ensures ∙ c.if-n-ne0.false) _ c.length_of.ensures.told in
     good.1

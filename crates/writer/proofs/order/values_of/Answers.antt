@@ -5,9 +5,6 @@ use native.Mathlib.Omega.{arith}
 use lib.Count.{ones, ones-le}
 use Rattle.writer.proofs.order.values_of.Goals as goal
 
-pub overflow_add-result : goal.overflow_add-result
-overflow_add-result c = omega arith
-
 pub overflow_cast-result : goal.overflow_cast-result
 overflow_cast-result c = omega (arith, ones-le 32 c.args.mask (omega arith))
 

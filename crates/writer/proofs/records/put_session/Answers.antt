@@ -20,12 +20,12 @@ loop-at-init c = putting_start _ _ _ _ _ c.requires c.put_one-to.ensures
 
 pub row_at-requires : goal.row_at-requires
 row_at-requires c =
-    let there : c.loop-at.at + 6 ≤ length c.args.rows.now =     row_there _ _ (good_call _ _ _ c.requires).whole c.loop-at.invariant.step c.loop-at-test.true in
+    let there : c.loop-at.at + 6 ≤ length c.args.rows.now = row_there _ _ (good_call _ _ _ c.requires).whole c.loop-at.invariant.step c.loop-at-test.true in
     there
 
 pub put_record-to-requires : goal.put_record-to-requires
 put_record-to-requires c =
-    let there : c.loop-at.at + 6 ≤ length c.args.rows.now =     row_there _ _ (good_call _ _ _ c.requires).whole c.loop-at.invariant.step c.loop-at-test.true in
+    let there : c.loop-at.at + 6 ≤ length c.args.rows.now = row_there _ _ (good_call _ _ _ c.requires).whole c.loop-at.invariant.step c.loop-at-test.true in
     let e = c.row_at.ensures in
     let s = c.loop-at.invariant in (
       ap row_refusal e ∙ row_unrefused _ _ _ _ _ _ there s,
@@ -34,17 +34,17 @@ put_record-to-requires c =
 
 pub overflow_add-at : goal.overflow_add-at
 overflow_add-at c =
-    let there : c.loop-at.at + 6 ≤ length c.args.rows.now =     row_there _ _ (good_call _ _ _ c.requires).whole c.loop-at.invariant.step c.loop-at-test.true in
+    let there : c.loop-at.at + 6 ≤ length c.args.rows.now = row_there _ _ (good_call _ _ _ c.requires).whole c.loop-at.invariant.step c.loop-at-test.true in
     omega (arith, there)
 
 pub loop-at-smaller : goal.loop-at-smaller
 loop-at-smaller c =
-    let there : c.loop-at.at + 6 ≤ length c.args.rows.now =     row_there _ _ (good_call _ _ _ c.requires).whole c.loop-at.invariant.step c.loop-at-test.true in
+    let there : c.loop-at.at + 6 ≤ length c.args.rows.now = row_there _ _ (good_call _ _ _ c.requires).whole c.loop-at.invariant.step c.loop-at-test.true in
     omega (arith, there)
 
 pub loop-at-preserved : goal.loop-at-preserved
 loop-at-preserved c =
-    let there : c.loop-at.at + 6 ≤ length c.args.rows.now =     row_there _ _ (good_call _ _ _ c.requires).whole c.loop-at.invariant.step c.loop-at-test.true in
+    let there : c.loop-at.at + 6 ≤ length c.args.rows.now = row_there _ _ (good_call _ _ _ c.requires).whole c.loop-at.invariant.step c.loop-at-test.true in
     putting_next _ _ _ _ _ _ there c.loop-at.invariant _ _
     (renamed (ap (λ (r : List ℕ). bytes_of (event_of_row r)) c.row_at.ensures) c.put_record-to.ensures)
 
