@@ -14,7 +14,7 @@ use Rattle.rules.specs.Record.{State}
 use Rattle.rules.specs.Step.{Outcome, step}
 use Rattle.rules.specs.Session.{after}
 use Rattle.rules.specs.Bench.{load}
-use Rattle.demand3.specs.Demand3.{same, deeper, NothingLost, loses_nothing, Alike, SameAnswers, none, next, Agree, PowerUpsAccepted, NoQuarters}
+use Rattle.demand3.specs.Demand3.{deeper, NothingLost, loses_nothing, Alike, SameAnswers, none, next, Agree, PowerUpsAccepted, NoQuarters}
 use Rattle.demand3.specs.Examples.{settings, first_run, second_run, first_start, second_start, emptying, shut_out, refusing, again, nine_loads, too_small, large_enough}
 use Rattle.instances.specs.Demand3.{Scene, scene_of, holding, answers_of, eight_held, ScriptSeen, ClosedSeen, Demand3-used, Request-used, Closed-used, damaged, turning_board, mended, restarted, From-any-used, As-ordered-used, Refused-used, Lossless-used}
 use Rattle.demand3.proofs.Lossless.{lossless_test, lossless_take}

@@ -27,7 +27,7 @@ use Rattle.file_rules.specs.declared.End.{End}
 use Rattle.file_rules.specs.declared.End.TheVariants.{File, Refused}
 use Rattle.file_rules.specs.File.{verdict, fault_number, session}
 use Rattle.volt_rules.specs.declared.Extremes.{Extremes}
-use Rattle.volt_rules.specs.Volts.{factor, zero_volts}
+use Rattle.volt_rules.specs.Volts.{zero_volts}
 use Rattle.volt_rules.specs.Counting.{Counted, is_power_up, counted}
 use Rattle.volt_rules.specs.Table.{volts_at, counted_in, table_refusal}
 use Rattle.volt_rules.specs.Laws.{Exact, UpAccepted, NoneAccepted, levels_after, TableGiven, bad_file, no_power, done, OneOf, Bounds, three_of, OfLevel, Factor, five, ten, twenty}
