@@ -3,9 +3,8 @@
 #   say WORDS, fail WORDS     a message on standard error; fail ends with status 2
 #   need TOOL WHY             fails in a sentence where a tool is missing
 #   make_program NAME...      proves and builds programs: target/bin/NAME
-#   make_archive NAME...      proves and builds the archive of a crate that hosts call: target/staticlib/libNAME.a
-#   make_library              proves and builds what hosts link, those of all such crates in one: target/staticlib/libnergutsai.a
-#   built_with NAME           the toolchain that built NAME
+#   make_library              proves and builds what hosts link: target/staticlib/libnergutsai.a
+#   built_with NAME           the toolchain that built the crate NAME
 # What was built from the sources as they are now, to the byte, is not built again. `quiet=0` shows what rt says.
 # shellcheck shell=sh disable=SC2154
 
@@ -20,11 +19,11 @@ need() { # TOOL WHY
     command -v "$1" >/dev/null 2>&1 || fail "$1 is not on the path; $2"
 }
 
-# The crates that a crate stands on, and itself, by crates.txt.
+# The crates that a crate stands on, and itself, by crates.txt, where a static library has a second word before the colon.
 crates_under() { # NAME
     awk -v want="$1" '
         { sub(/#.*/, "") }
-        /:/ { i = index($0, ":"); name = substr($0, 1, i - 1); gsub(/[ \t]/, "", name); deps[name] = substr($0, i + 1) }
+        /:/ { i = index($0, ":"); split(substr($0, 1, i - 1), words, " "); deps[words[1]] = substr($0, i + 1) }
         function visit(name,    parts, n, k) {
             if (seen[name] || !(name in deps)) return
             seen[name] = 1
@@ -71,76 +70,43 @@ lock() { # WHY
 
 unlock() { exec 9>&-; }
 
-# Runs rt in the project's folder. What it says is shown where it fails.
-run_rt() { # WORDS
-    if [ "${quiet:-1}" -eq 0 ]; then
-        (cd "$root" && exec rt "$@" 9>&-) >&2
-        return
-    fi
-    (cd "$root" && exec rt "$@" 9>&-) >"$root/target/made/said" 2>&1 && return
-    cat "$root/target/made/said" >&2
+# Runs rt in a crate's folder. What it says is shown where it fails. `rt run` builds a program and runs it, here on no input, and says all
+# that is its own on standard error: what the program writes is thrown away.
+run_rt() { # COMMAND NAME
+    (
+        cd "$root/crates/$2" && exec </dev/null 9>&- || exit
+        if [ "${quiet:-1}" -eq 0 ]; then exec 8>&2; else exec 8>"$root/target/made/said"; fi
+        if [ "$1" = run ]; then exec rt "$@" >/dev/null 2>&8; else exec rt "$@" >&8 2>&8; fi
+    ) && return
+    [ "${quiet:-1}" -eq 0 ] || cat "$root/target/made/said" >&2
     return 1
 }
 
-# Builds by COMMAND what is not current. What is there and is not what the sources make is removed first, so that nothing stale is left
-# where the build fails; what rt made and no script has seen yet is for rt to judge, which goes by content too.
-make_by() { # COMMAND NAME FILE
-    ! is_current "$2" "$3" || return 0
-    if [ -e "$root/$3" ]; then why="$2 is not what the sources make"; else why="$2 is not built yet"; fi
+# Builds by COMMAND what is not current: a copy of what rt makes in the crate's folder, where other commands of rt replace it. A copy that
+# is not what the sources make is removed first, so that nothing stale is left where the build fails.
+make_by() { # COMMAND NAME MADE FILE
+    ! is_current "$2" "$4" || return 0
+    if [ -e "$root/$4" ]; then why="$2 is not what the sources make"; else why="$2 is not built yet"; fi
     need rt "it is the Rattle toolchain's command, and $why"
     lock "$why"
-    if ! is_current "$2" "$3"; then
-        if [ ! -e "$root/$3" ] || [ -e "$root/target/made/$2" ]; then
-            if [ -d "$root/target/rlib" ]; then say "$why; building it"; else say "$why; the first build proves everything, which takes some minutes"; fi
-            rm -f "$root/$3" "$root/target/made/$2" "$root/target/stamp/$2" || fail "$why, and nothing can be built, since $root/target cannot be written"
-        fi
+    if ! is_current "$2" "$4"; then
+        if [ -e "$root/$4" ] || [ -d "$root/crates/rules/out" ]; then say "$why; building it"; else say "$why; the first build proves everything, which takes some minutes"; fi
+        if ! { mkdir -p "$root/${4%/*}" && rm -f "$root/$4" "$root/target/made/$2"; }; then fail "$why, and nothing can be built, since $root/target cannot be written"; fi
         # taken before the build: a source that changes meanwhile counts as changed
         sources=$(sources_of "$2")
         run_rt "$1" "$2" || fail "$2 could not be built; what rt said is above"
-        [ -s "$root/$3" ] || fail "$2 could not be built: there is no $3"
-        stamp_of "$sources" "$3" "$(rt version)" >"$root/target/made/$2" || fail "$root/target cannot be written"
+        made=$root/crates/$2/out/$3
+        [ -s "$made" ] || fail "$2 could not be built: there is no $made"
+        if ! { cp "$made" "$root/$4" && stamp_of "$sources" "$4" "$(rt version)" >"$root/target/made/$2"; }; then fail "$root/target cannot be written"; fi
     fi
     unlock
 }
 
 make_program() { # NAME...
-    for one in "$@"; do make_by check "$one" "target/bin/$one"; done
+    for one in "$@"; do make_by run "$one" "$one" "target/bin/$one"; done
 }
 
-make_archive() { # NAME...
-    for one in "$@"; do make_by staticlib "$one" "target/staticlib/lib$one.a"; done
-}
-
-# One archive of all that hosts call, so that a program links one name. Its members are those of the crates' archives, to the byte: the
-# code that was proved and measured is the code that is linked.
+# What hosts call stands in one crate, so that a program links one archive, by the project's name.
 library=target/staticlib/libnergutsai.a
-hosted='bridge listing writer volts sizes'
 
-parts_of_library() { (cd "$root/target/staticlib" && for one in $hosted; do sha256sum "lib$one.a"; done) | sha256sum | cut -d' ' -f1; }
-
-is_joined() {
-    [ -s "$root/$library" ] && [ -f "$root/target/made/nergutsai" ] || return 1
-    [ "$(cat "$root/target/made/nergutsai")" = "$(stamp_of "$(parts_of_library)" "$library" ar)" ]
-}
-
-join_archives() {
-    rm -rf "$root/target/made/members" && mkdir "$root/target/made/members" && cd "$root/target/made/members" || return
-    for one in $hosted; do ar x "../../staticlib/lib$one.a" "$one.o" || return; done
-    # shellcheck disable=SC2046,SC2086 # A word each. D: no times and no users in it, so it is the same wherever it is made.
-    ar crsD "$root/$library" $(printf '%s.o ' $hosted)
-}
-
-make_library() {
-    # shellcheck disable=SC2086 # A word each.
-    make_archive $hosted
-    ! is_joined || return 0
-    if [ -e "$root/$library" ]; then why="libnergutsai.a is not what the archives make"; else why="libnergutsai.a is not made yet"; fi
-    need ar "$why: install binutils, which ar is part of"
-    lock "$why"
-    if ! is_joined; then
-        rm -f "$root/$library" "$root/target/made/nergutsai" || fail "$why, and it cannot be made, since $root/target cannot be written"
-        (join_archives) || fail "libnergutsai.a could not be made; what ar said is above"
-        stamp_of "$(parts_of_library)" "$library" ar >"$root/target/made/nergutsai" || fail "$root/target cannot be written"
-    fi
-    unlock
-}
+make_library() { make_by lib nergutsai_c libnergutsai_c.a "$library"; }

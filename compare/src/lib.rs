@@ -1,6 +1,6 @@
 //! What the seven programs share: their words, records, events and answers as
 //! numbers, the second model behind them, random sessions, session files, and
-//! the way through these. Nothing here needs the archives.
+//! the way through these. Nothing here needs the archive.
 
 pub mod bits;
 pub mod calls;

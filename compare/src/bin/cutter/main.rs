@@ -1,5 +1,5 @@
-//! Compares the cutters, the second model's with that of libwriter.a, and plays what
-//! was written on the board of libbridge.a.
+//! Compares the cutters, the second model's with that of libnergutsai.a, and plays what
+//! was written on the proved board.
 
 mod board;
 mod call;
@@ -25,7 +25,7 @@ use lent::Lent;
 use tally::Tally;
 
 const HELP: &str = "\
-compare/cutter - the second model's cutter against libwriter.a, and its cuts played
+compare/cutter - the second model's cutter against libnergutsai.a, and its cuts played
 
 usage: compare/cutter [--seed S] [--calls N] [--only INDEX] [--coverage]
                       [--help]

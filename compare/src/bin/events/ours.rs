@@ -1,10 +1,10 @@
-//! The other implementation: the proved board, libbridge.a, as the Rust
+//! The other implementation: the proved board, libnergutsai.a, as the Rust
 //! wrapper reaches it. The callers put guard words around each of the slices.
 
 use crate::fields::{Figures, Record};
 pub use nergutsai::{call, rate_call};
 
-pub const NAME: &str = "libbridge.a";
+pub const NAME: &str = "libnergutsai.a";
 
 /// Words beside the figures, and what the figures are before they are asked.
 const GUARD: u32 = 0xA5A5_5A5A;

@@ -1,5 +1,5 @@
 //! Compares the listings of whole session files: the second model's with those
-//! of liblisting.a.
+//! of libnergutsai.a.
 
 mod lent;
 mod tally;
@@ -14,7 +14,7 @@ use lent::Lent;
 use tally::Tally;
 
 const HELP: &str = "\
-compare/sessions - the second model against liblisting.a, by whole session files
+compare/sessions - the second model against libnergutsai.a, by whole session files
 
 usage: compare/sessions [--seed S] [--sessions N] [--only INDEX] [--coverage]
                         [--help]

@@ -1,5 +1,5 @@
 //! Compares the smallest size that plays whole session files: the second
-//! model's answer with that of libsizes.a.
+//! model's answer with that of libnergutsai.a.
 
 mod aim;
 mod answer;
@@ -19,7 +19,7 @@ use asked::Sizes;
 use compare::question;
 
 const HELP: &str = "\
-compare/sizes - the second model's smallest size that plays against libsizes.a
+compare/sizes - the second model's smallest size that plays against libnergutsai.a
 
 usage: compare/sizes [--seed S] [--sessions N] [--only INDEX] [--coverage]
                      [--help]

@@ -1,5 +1,5 @@
 //! Compares the lowest, highest and last volts of whole session files: the
-//! second model's with those of libvolts.a.
+//! second model's with those of libnergutsai.a.
 
 mod asked;
 mod files;
@@ -12,7 +12,7 @@ use asked::Volts;
 use compare::question;
 
 const HELP: &str = "\
-compare/volts - the second model's table of volts against libvolts.a
+compare/volts - the second model's table of volts against libnergutsai.a
 
 usage: compare/volts [--seed S] [--sessions N] [--only INDEX] [--coverage]
                      [--help]

@@ -1,4 +1,4 @@
-//! Compares the session writers, the second model's with that of libwriter.a, and
+//! Compares the session writers, the second model's with that of libnergutsai.a, and
 //! reads back what was written.
 
 mod call;
@@ -17,7 +17,7 @@ use tally::Tally;
 use trial::{Part, Trial, PARTS};
 
 const HELP: &str = "\
-compare/writer - the second model's session writer against libwriter.a
+compare/writer - the second model's session writer against libnergutsai.a
 
 usage: compare/writer [--seed S] [--calls N] [--only INDEX] [--coverage]
                       [--help]
