@@ -105,7 +105,7 @@ def main():
     crates = set(os.listdir(os.path.join(root, "crates")))
     changed = 0
     for folder, dirs, files in os.walk(root):
-        dirs[:] = sorted(d for d in dirs if d not in (".git", "out", "target", "second", "changes"))
+        dirs[:] = sorted(d for d in dirs if d not in (".git", "out", "target", "second", "changes", "data"))
         for f in sorted(files):
             path = os.path.join(folder, f)
             kind = os.path.splitext(f)[1]

@@ -22,14 +22,14 @@ its_depth : (b : Board) (r : ℕ) → sound b ≡ true → Told (depth (capped_b
 its_depth b r s p = depth_told b r p ((sound_exactly _).0 s).fitted
 
 pub returns-then-len-depth : goal.returns-then-len-depth
-returns-then-len-depth c = 
+returns-then-len-depth c =
     λ m h n.
     let is_so = told_true c.is_sound.ensures c.if-not-is_sound.false in
     let d = its_depth c.args.b _ is_so c.depth.ensures in
     rw (is_so, lt-ltb (length m) (depth c.args.b) (omega (arith, h, c.if-len-depth.true, d)))
 
 pub returns : goal.returns
-returns c = 
+returns c =
     λ m h n.
     let is_so = told_true c.is_sound.ensures c.if-not-is_sound.false in
     let d = its_depth c.args.b _ is_so c.depth.ensures in

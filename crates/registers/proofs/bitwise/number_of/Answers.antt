@@ -1,10 +1,10 @@
-use Prim.Native.Nat.{ℕ, ◌-◌, ◌^◌, ◌<◌, ◌≤◌}
-use mathlib.Core.Bool.{Bool, false}
+use Prim.Native.Nat.{ℕ, ◌^◌, ◌<◌, ◌≤◌}
+use mathlib.Core.Bool.{Bool}
 use mathlib.Core.List.{List}
 use mathlib.Core.Path.{◌≡◌, ap, ◌∙◌}
 use native.Mathlib.Omega.{arith}
-use lib.ListN.{length, get_or, drop}
-use Rattle.rules.specs.Bits.{flag, number}
+use lib.ListN.{length, drop}
+use Rattle.rules.specs.Bits.{number}
 use Rattle.rules.proofs.Readings.{flag_le}
 use Rattle.registers.proofs.BitNumbers.{drop_lt, drop_less}
 use Rattle.registers.proofs.bitwise.number_of.Goals as goal
