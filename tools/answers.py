@@ -24,11 +24,16 @@ def norm(x):
 
 def key(x):
     k = norm(x)
-    return k[len("overflow-"):] if k.startswith("overflow-") else k
+    for made in ("overflow-", "nonzero-"):
+        if k.startswith(made):
+            return k[len(made):]
+    return k
 
 
 class Function:
-    def __init__(self, names):
+    def __init__(self, names, params, own):
+        self.params = params
+        self.own = own
         self.places = {p[0]: p for p in names["places"]}
         self.arms = {p[0]: a for p, a in zip(names["places"], names["arms"])}
         self.asked = {}
@@ -42,6 +47,8 @@ class Function:
             self.asked[k] = at[0]
         self.loops = names["loops"]
         self.changed = names["changed"]
+        self.lemmas = {}
+        self.opened = set()
         self.said = []
 
     def need(self, tie_name):
@@ -51,8 +58,20 @@ class Function:
         self.said.append(f"no goal for {tie_name}")
         return None, None
 
-    def resolve(self, place, comps):
-        """A path from a place: ('place', P) where it only climbs, else ('term', text)."""
+    def covers(self, goal):
+        """For each place from a goal's own upward: the arm that has taken its step in, or None. An arm counts the steps that it takes."""
+        out, arm, left, at = {}, None, 0, goal
+        while at is not None:
+            if left == 0:
+                arm, left = (self.arms[at], self.arms[at][1]) if self.arms.get(at) else (None, 1)
+            out[at] = arm
+            left -= 1
+            at = self.places[at][1]
+        return out
+
+    def resolve(self, goal, place, comps):
+        """A path of a goal, from a place: ('place', P) where it only climbs, else ('term', text)."""
+        covers = self.covers(goal)
         i = 0
         while i < len(comps) and comps[i] == "before":
             parent = self.places[place][1]
@@ -64,6 +83,8 @@ class Function:
         if i == len(comps):
             return "place", place
         x, rest = comps[i], comps[i + 1:]
+        if x == "args" and rest and re.fullmatch(r"t\d+", rest[0]) and len(self.params.get(self.own, [])) >= int(rest[0][1:]):
+            rest = [self.params[self.own][int(rest[0][1:]) - 1]] + rest[1:]
         if x.replace("-", "_") in PLAIN:
             x = x.replace("-", "_")
             return "term", ".".join(["c", x] + rest)
@@ -71,40 +92,59 @@ class Function:
         while at is not None:
             old, new = self.places[at][2]
             if norm(old) == norm(x):
-                arm = self.arms.get(at)
-                if arm:
-                    best = None
-                    for field, step, path in arm[2]:
-                        if norm(step) == norm(x) and rest[:len(path)] == path and (best is None or len(path) > len(best[1])):
-                            best = (field, path)
-                    if best and best[1]:
-                        return "term", ".".join(["c", arm[0], best[0]] + rest[len(best[1]):])
-                    if best:
-                        return "term", ".".join(["c", new] + rest)
+                callee = self.params.get(self.places[at][3], [])
+                if len(rest) > 1 and rest[0] == "new" and rest[1].isdigit() and int(rest[1]) < len(callee):
+                    rest = ["new", callee[int(rest[1])]] + rest[2:]
+                if rest and rest[0] == "auto":
+                    k = 1
+                    while k < len(rest) and rest[k] == "1":
+                        k += 1
+                    if k < len(rest) and rest[k] == "0" and k - 1 < len(callee):
+                        rest = ["auto", callee[k - 1]] + rest[k + 1:]
+                arm = covers[at]
+                best = None
+                for field, step, path in arm[2] if arm else []:
+                    if norm(step) == norm(x) and rest[:len(path)] == path and (best is None or len(path) > len(best[1])):
+                        best = (field, path)
+                if best:
+                    return "term", ".".join(["c", arm[0], best[0]] + rest[len(best[1]):])
                 return "term", ".".join(["c", new] + rest)
             at = self.places[at][1]
+        bare = re.sub(r"-?\d+$", "", norm(x))
+        if bare != norm(x):
+            return self.resolve(goal, place, [bare] + rest)
         self.said.append(f"no step {x} at {place}: " + ".".join(comps))
         return "term", ".".join(["c"] + comps[i:])
 
-    def body(self, text, place):
-        """The answer's text with its paths resolved; names that stand for places are written out."""
-        alias = {"c": place}
-        lines = []
+    def body(self, text, goal, place=None):
+        """The answer's text with its paths resolved; names that stand for places are written out, and lemmas on a place become typed lets."""
+        alias = {"c": place or goal}
+        lines, lets = [], {}
         for line in text.split("\n"):
             m = re.match(r"^(\s*)(.*?)let ([A-Za-z_][\w'₀-]*) = (c|[A-Za-z_][\w'₀-]*)((?:\.before)*) in\s*(.*)$", line)
             if m and m.group(4) in alias and not m.group(2):
-                kind, p = self.resolve(alias[m.group(4)], [c for c in m.group(5).split(".") if c])
+                kind, p = self.resolve(goal, alias[m.group(4)], [c for c in m.group(5).split(".") if c])
                 alias[m.group(3)] = p
                 if not m.group(6):
                     continue
                 line = m.group(1) + m.group(6)
+            for name, (at, kind_of, proof, opens) in self.lemmas.items():
+                call = re.compile(r"(?<![\w.'-])" + re.escape(name) + r" (" + "|".join(map(re.escape, alias)) + r")((?:\.before)*)(?![\w.'-])")
+                if call.search(line):
+                    line = re.sub(r"\(" + re.escape(name) + r"\)", name, call.sub(name, line))
+                    if name not in lets:
+                        inner, before = self.body(proof, goal, at)
+                        said, _ = self.body(kind_of, goal, at)
+                        lets.update(before)
+                        lets[name] = f"let {name} : {' '.join(said.split())} = {' '.join(inner.split())} in"
+                        self.opened |= set(opens)
 
             def turn(m):
                 head = m.group(1)
                 if head not in alias:
                     return m.group(0)
                 comps = m.group(2)[1:].split(".")
-                kind, t = self.resolve(alias[head], comps)
+                kind, t = self.resolve(goal, alias[head], comps)
                 if kind == "place":
                     self.said.append("a place is passed on: " + m.group(0))
                     return "c"
@@ -113,7 +153,19 @@ class Function:
         for a in alias:
             if a != "c" and any(re.search(r"(?<![\w.'-])" + re.escape(a) + r"(?![\w'.-])", l) for l in lines):
                 self.said.append(f"the place {a} is passed on")
-        return "\n".join(lines)
+        return "\n".join(lines), lets
+
+    def lemma(self, text):
+        """A lemma on a place of the code, `f : (c : tie.After-x ..) → ..`, is kept for the answers that cite it."""
+        m = re.match(r"^((?:--[^\n]*\n)*)(?:pub )?(\S+) : \(c : tie\.(\S+?)(?: [^)]*)?\)\s*→ ([\s\S]*?)\n((?:unfolding[^\n]*\n)?)\2 c =\s*([\s\S]*)$", text)
+        if not m:
+            return False
+        at = [p for p in self.places if norm(p) == norm(m.group(3))]
+        if len(at) != 1:
+            self.said.append(f"no place {m.group(3)}")
+            return False
+        self.lemmas[m.group(2)] = (at[0], m.group(4), m.group(6), m.group(5).split()[1:])
+        return True
 
     def loop(self, tie_name):
         """(new name, the variables by position) of `invariant-loop`, `decreases-loop2` .."""
@@ -122,9 +174,8 @@ class Function:
             return None
         for ((old, new), names), changed in zip(self.loops, self.changed):
             if norm(old) == norm(m.group(2)):
-                same = [n for n, c in zip(names, changed) if not c]
-                moved = [n for n, c in zip(names, changed) if c]
-                order = ["l." + n for n in same] + ["l.initial." + n for n in moved] + ["l." + n for n in moved]
+                order = [("l.initial." if c else "l.") + n for n, c in zip(names, changed)]
+                order += ["l." + n for n, c in zip(names, changed) if c]
                 return m.group(1) + "-" + new, order
         self.said.append(f"no loop for {tie_name}")
         return None
@@ -150,6 +201,10 @@ def split(text):
     return comments, uses, blocks
 
 
+def words(text, names):
+    return TOKEN.sub(lambda m: names.get(m.group(0), m.group(0)), text)
+
+
 def used(uses, text):
     words = set(TOKEN.findall(text))
     kept = []
@@ -169,6 +224,9 @@ def used(uses, text):
                 parts = [p for p in name.split("◌") if p]
                 if all(p in words for p in parts):
                     names.append(n)
+            elif name == "[]":
+                if "[]" in text:
+                    names.append(n)
             elif name in words:
                 names.append(n)
         if names:
@@ -176,38 +234,52 @@ def used(uses, text):
     return kept
 
 
-def turn(path, names, crate, where):
-    f = Function(names)
+def turn(path, names, crate, where, params):
+    f = Function(names, params, "::".join([crate] + where.split(".")))
     with open(path, encoding="utf-8") as h:
         comments, uses, blocks = split(h.read())
     uses = [u for u in uses if ".Statement." not in u and not u.endswith("Tie as tie")]
-    invariants, answers = [], []
+    invariants, answers, renamed = [], [], {}
     for b in blocks:
         joined = "\n".join(b)
         if re.search(r"^pub \S+ : \{M : Type 1\}", joined, re.M):
             continue
         m = re.search(r"^(?:abbrev )?(?:pub )?(\S+) : tie\.(\S+)(.*)$", joined, re.M)
         if not m:
-            answers.append(joined)
+            if not f.lemma(joined):
+                answers.append(joined)
             continue
         name, goal = m.group(1), m.group(2)
         if goal.startswith("Need-"):
             new, place = f.need(goal[5:])
+            if new is None and re.search(r"κs? =\s*search rules$| c =\s*search rules$", joined):
+                f.said.pop()
+                continue
             if new is None:
                 answers.append(joined)
                 continue
+            if name != new:
+                renamed[name] = new
             lines = joined.split("\n")
             rest = [l for l in lines if not re.match(r"^(?:pub )?\S+ : tie\.", l)]
             head = [l for l in rest if l.startswith(("--", "unfolding"))]
             body = [l for l in rest if not l.startswith(("--", "unfolding"))]
             text = "\n".join(body)
-            text = re.sub(r"^" + re.escape(name) + r" c(?: κs)? =", new + " c =", text)
-            text = f.body(text, place)
+            text = re.sub(r"^" + re.escape(name) + r" c(?: κs)?(?= )", lambda k: new + " c", text, flags=re.M)
+            clause, _, right = text.partition(" =")
+            f.opened = set()
+            right, lets = f.body(right, place)
+            if lets:
+                right = "\n    " + "\n    ".join(lets.values()) + "\n    " + right.strip()
+            text = clause + " =" + right
             if re.sub(r"\s+", " ", text) == new + " c = search rules":
                 continue
             notes = [h for h in head if h.startswith("--")]
             opens = [h for h in head if h.startswith("unfolding")]
-            answers.append("\n".join(notes + [f"pub {new} : goal.{new}"] + opens + [text]))
+            opened = sorted({w for h in opens for w in h.split()[1:]} | f.opened)
+            opens = ["unfolding " + " ".join(opened)] if opened else []
+            clause, _, rest = text.partition(" =")
+            answers.append(("\n".join(notes + [f"pub {new} : goal.{new}"] + opens + [clause + " ="]), rest))
         else:
             l = f.loop(goal.split(" ")[0])
             if l is None:
@@ -227,6 +299,8 @@ def turn(path, names, crate, where):
             table = dict(zip(params, order))
             out = re.sub(r"(?<![\w.'₀-])([A-Za-z_][\w'₀]*(?:-[\w'₀]+)*)(?![\w'₀-])", lambda k: table.get(k.group(1), k.group(1)), m2.group(2))
             invariants.append("\n".join([h for h in head if h.startswith("--")] + [f"abbrev pub {new} : goal.{new}"] + [h for h in head if h.startswith("unfolding")] + [f"{new} l = " + out]))
+    # an answer that cites another one
+    answers = [a if isinstance(a, str) else a[0] + words(a[1], renamed) for a in answers]
     folder = os.path.dirname(path)
     module = f"Rattle.{crate}.proofs.{where}"
     if invariants:
@@ -251,6 +325,10 @@ def main():
     crate = os.path.basename(os.path.normpath(folder))
     with open(listing, encoding="utf-8") as h:
         names = json.load(h)
+    params = {}
+    for k, v in names.items():
+        if k.endswith(".Lts"):
+            params.update(v["params"])
     for at, dirs, files in os.walk(os.path.join(folder, "proofs")):
         dirs.sort()
         if "Proof.antt" in files:
@@ -261,7 +339,7 @@ def main():
             if k not in names:
                 print(f"{where}: the check does not name its goals")
                 continue
-            turn(os.path.join(at, "Proof.antt"), names[k], crate, where)
+            turn(os.path.join(at, "Proof.antt"), names[k], crate, where, params)
 
 
 if __name__ == "__main__":

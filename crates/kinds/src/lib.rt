@@ -12,6 +12,7 @@ use file_rules::Fault;
 use rules::{Event, Signal};
 
 // 01: "Kinds and lengths": how long a record of a kind is, 0 where there is no such kind.
+#[tactic(auto, unfolding(file_rules::specs::File::length_of))]
 pub fn length_of(kind: u32) -> u32
     ensures { Told (length_of kind) result }
 {
@@ -25,6 +26,7 @@ pub fn length_of(kind: u32) -> u32
 }
 
 // 01: "4 tick, 5 outside clock, 6 trigger, 7 calibration passed, 8 failed, 9 settled"; any other kind counts as 9.
+#[tactic(auto, unfolding(file_rules::specs::File::signal_of))]
 pub fn signal_of(kind: u32) -> Signal
     ensures { Told (signal_of kind) result }
 {
@@ -65,6 +67,7 @@ pub fn row_of(e: Event) -> [u32; 6]
 }
 
 // 01's number of what is wrong with a file.
+#[tactic(auto, unfolding(file_rules::specs::File::fault_number))]
 pub fn fault_number(why: Fault) -> u32
     ensures { Told (fault_number why) result }
 {

@@ -1,5 +1,5 @@
-// The session reader: the lent file bytes and the place of the next record. `item` takes the struct apart and calls the covered
-// function; `read_at` stands above, with plain parameters, and is what `next` of crate `run` calls for every record.
+// The session reader: the lent file bytes and the place of the next record. `item` takes the struct apart and asks crate
+// `session`; `read_at` stands above, with plain parameters, and is what `next` of crate `run` calls for every record.
 #![tactic(auto)]
 
 ghost use Rattle.rules.specs.ToldInNumbers.{ToldInNumbers};

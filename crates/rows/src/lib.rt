@@ -25,6 +25,7 @@ pub fn board_at(row: &[u32]) -> Board
 }
 
 // A row of another length is left as it was, and answered false.
+#[tactic(auto, unfolding(crate::specs::Promises::row_written))]
 pub fn put_board(b: Board, row: &mut [u32]) -> bool
     ensures { Put b row.old result row.new }
 {

@@ -1,0 +1,16 @@
+-- `put_decimal` meets its contract: a number of one digit is that digit.
+use Rattle.file_rules.proofs.Joined.{piece_length}
+use Rattle.listing_rules.proofs.Numbers.{decimal_one}
+use Rattle.lines.proofs.pieces.put_decimal.Goals as goal
+
+pub returns-then-n-lt10 : goal.returns-then-n-lt10
+returns-then-n-lt10 c = rw (decimal_one 9 _ c.if-n-lt10.true) c.put_digit.ensures
+
+pub shape_of-out-then-n-lt10 : goal.shape_of-out-then-n-lt10
+shape_of-out-then-n-lt10 c = piece_length (returns-then-n-lt10 c)
+
+pub returns : goal.returns
+returns c = c.put_long.ensures
+
+pub shape_of-out : goal.shape_of-out
+shape_of-out c = piece_length (returns c)
