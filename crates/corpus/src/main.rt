@@ -10,12 +10,7 @@ mod checksum;
 mod print;
 
 // Fills the session from standard input, as far as that goes, plays it and prints its line. Answers whether to go on.
-fn play(
-    rt: &HostRuntime,
-    number: u64,
-    session: &mut [u8],
-    memory: &mut [u32],
-) -> io::Result<bool> {
+fn play(rt: &HostRuntime, number: u64, session: &mut [u8], memory: &mut [u32]) -> io::Result<bool> {
     let mut out = [0u8; 22160];
     let n = read_all(&mut rt.stdin(), session)?;
     match list(&session[..n], memory, &mut out) {
