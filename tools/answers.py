@@ -93,14 +93,12 @@ class Function:
             old, new = self.places[at][2]
             if norm(old) == norm(x):
                 callee = self.params.get(self.places[at][3], [])
-                if len(rest) > 1 and rest[0] == "new" and rest[1].isdigit() and int(rest[1]) < len(callee):
-                    rest = ["new", callee[int(rest[1])]] + rest[2:]
-                if rest and rest[0] == "auto":
+                if rest and rest[0] in ("new", "auto"):
                     k = 1
                     while k < len(rest) and rest[k] == "1":
                         k += 1
                     if k < len(rest) and rest[k] == "0" and k - 1 < len(callee):
-                        rest = ["auto", callee[k - 1]] + rest[k + 1:]
+                        rest = [rest[0], callee[k - 1]] + rest[k + 1:]
                 arm = covers[at]
                 best = None
                 for field, step, path in arm[2] if arm else []:
@@ -119,8 +117,18 @@ class Function:
     def body(self, text, goal, place=None):
         """The answer's text with its paths resolved; names that stand for places are written out, and lemmas on a place become typed lets."""
         alias = {"c": place or goal}
+        prefix = {}
         lines, lets = [], {}
         for line in text.split("\n"):
+            # a step that was matched on, or whose parts go by number: its name is written out
+            m = re.match(r"^(\s*)let ([A-Za-z_][\w'₀-]*) = (c|[A-Za-z_][\w'₀-]*)((?:\.[\w'₀-]+)+) in\s*$", line)
+            if m and m.group(3) in alias and m.group(3) not in prefix:
+                path = m.group(4)[1:].split(".")
+                step = [x for x in path if x != "before"]
+                if path[-1] == "given" or len(step) == 1 and re.search(r"(?<![\w.'-])" + re.escape(m.group(2)) + r"\.(?:new|auto|given)\.", text):
+                    alias[m.group(2)] = alias[m.group(3)]
+                    prefix[m.group(2)] = path
+                    continue
             m = re.match(r"^(\s*)(.*?)let ([A-Za-z_][\w'₀-]*) = (c|[A-Za-z_][\w'₀-]*)((?:\.before)*) in\s*(.*)$", line)
             if m and m.group(4) in alias and not m.group(2):
                 kind, p = self.resolve(goal, alias[m.group(4)], [c for c in m.group(5).split(".") if c])
@@ -143,7 +151,7 @@ class Function:
                 head = m.group(1)
                 if head not in alias:
                     return m.group(0)
-                comps = m.group(2)[1:].split(".")
+                comps = prefix.get(head, []) + m.group(2)[1:].split(".")
                 kind, t = self.resolve(goal, alias[head], comps)
                 if kind == "place":
                     self.said.append("a place is passed on: " + m.group(0))
@@ -222,7 +230,7 @@ def used(uses, text):
             name = n.split(" as ")[-1]
             if "◌" in name:
                 parts = [p for p in name.split("◌") if p]
-                if all(p in words for p in parts):
+                if name in words or all(p in words for p in parts):
                     names.append(n)
             elif name == "[]":
                 if "[]" in text:
@@ -272,7 +280,7 @@ def turn(path, names, crate, where, params):
             if lets:
                 right = "\n    " + "\n    ".join(lets.values()) + "\n    " + right.strip()
             text = clause + " =" + right
-            if re.sub(r"\s+", " ", text) == new + " c = search rules":
+            if re.sub(r"\s+", " ", text) in (new + " c = search rules", new + " c = tt"):
                 continue
             notes = [h for h in head if h.startswith("--")]
             opens = [h for h in head if h.startswith("unfolding")]
