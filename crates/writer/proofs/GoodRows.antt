@@ -13,7 +13,7 @@ use Rattle.file_rules.specs.File.{length_of}
 use Rattle.file_rules.specs.Bytes.{signal_kind, kind_of, two, four, fields_of, bytes_of, Fits}
 use Rattle.file_rules.specs.Row.{row_of, field, event_of_row}
 use Rattle.file_rules.specs.Writing.{row_refusal}
-use Rattle.file_rules.specs.WritingLaws.{RowGiven, good}
+use Rattle.file_rules.specs.WritingLaws.{RowGiven, bad, good}
 use Rattle.file_rules.proofs.Lengths.{known_length, known_small}
 use Rattle.file_rules.proofs.Written.{known, row_read}
 use Rattle.file_rules.proofs.RowsGiven.{row_exactly}
@@ -24,6 +24,7 @@ of_event : (P : List ℕ → Event → Type 0) → ((e : Event) → Fits e → P
 of_event P f r l z = go ((row_exactly r 0 l).0 z)
   where
     go : RowGiven r 0 → P r (event_of_row r)
+    go (bad x) = elim x [ ]
     go (good e h q) = subst (λ (x : List ℕ). P x (event_of_row x)) (sym q) (subst (P (row_of e)) (sym (row_read e)) (f e h))
 
 -- ---- Its length and its head

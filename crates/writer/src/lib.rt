@@ -4,6 +4,7 @@
 
 ghost use Rattle.writer.specs.Promises.{Writes, cut_of, Cuts};
 
+pub use crate::exported::{nergutsai_cut, nergutsai_write};
 use crate::judging::refusal_of;
 use crate::loads::put_cut;
 use crate::order::cut_refusal;
