@@ -17,8 +17,8 @@
 //                        the refusal, and where the cutter stopped
 //   Bytes.               prints the 40 bytes in which the output is the first n
 //   Tell(place)          prints the row of the event at a place of the output, and the place after it
-use crate::board::{event, set};
 use crate::desk::{Desk, cleared};
+use crate::device::{event, set};
 use crate::extract::extracted;
 use crate::sheet::{cut, put, written};
 use crate::{endings, figures, print, sheet};

@@ -8,8 +8,8 @@ use line::read;
 use std::io;
 
 mod acts;
-mod board;
 mod desk;
+mod device;
 mod endings;
 mod extract;
 mod figures;

@@ -1,6 +1,6 @@
 // The rows on the desk, the session that is written of them, and the rows that are read from it.
-use crate::board::within;
 use crate::desk::Desk;
+use crate::device::within;
 use crate::print;
 use kinds::row_of;
 use run::{Ahead, Cursor};

@@ -23,13 +23,9 @@ pub(crate) fn within(n: usize, memory: &[u32]) -> usize
 pub(crate) fn event(desk: &mut Desk) {
     let numbers = desk.numbers;
     let mut answer = [99u32; 4];
-    let lent = within(desk.lent as usize, &desk.memory);
-    nergutsai_event(
-        &mut desk.row,
-        &mut desk.memory[..lent],
-        &numbers,
-        &mut answer,
-    );
+    let memory = &mut desk.memory[..];
+    let lent = within(desk.lent as usize, memory);
+    nergutsai_event(&mut desk.row, &mut memory[..lent], &numbers, &mut answer);
     desk.refusal = answer[0];
     desk.register = answer[1];
 }
