@@ -17,62 +17,38 @@
 //                        the refusal, and where the cutter stopped
 //   Bytes.               prints the 40 bytes in which the output is the first n
 //   Tell(place)          prints the row of the event at a place of the output, and the place after it
-use crate::board::{event, set};
 use crate::desk::{Desk, cleared};
+use crate::device::{event, set};
 use crate::extract::extracted;
 use crate::sheet::{cut, put, written};
 use crate::{endings, figures, print, sheet};
+use std::io;
 
-pub(crate) fn done(mut desk: Desk) -> Desk {
-    let act = desk.act;
-    match act {
-        b'U' => cleared(true),
-        b'L' => {
-            desk.lent = desk.numbers[0];
-            desk
-        }
+pub(crate) fn done(rt: &impl Print, desk: &mut Desk) -> io::Result<()> {
+    match desk.act {
+        b'U' => *desk = cleared(true),
+        b'L' => desk.lent = desk.numbers[0],
         b'S' => set(desk),
         b'E' => event(desk),
         b'P' => put(desk),
         b'C' => cut(desk),
-        b'W' => written(desk),
-        b'G' => extracted(desk),
-        _ => {
-            told(desk);
-            desk
-        }
+        b'W' => return written(rt, desk),
+        b'G' => return extracted(rt, desk),
+        _ => return told(rt, desk),
     }
+    Ok(())
 }
 
 // The acts that print.
-fn told(desk: Desk) {
-    let act = desk.act;
-    match act {
-        b'A' => print::field(desk.refusal),
-        b'V' => print::field(desk.register),
-        b'N' => {
-            let row = desk.row;
-            print::entry(&row, desk.numbers[0]);
-        }
-        b'M' => {
-            let memory = desk.memory;
-            print::entry(&memory, desk.numbers[0]);
-        }
-        b'F' => {
-            let row = desk.row;
-            figures::asked(row);
-        }
-        b'B' => {
-            let output = desk.output;
-            print::bytes(&output);
-        }
-        b'T' => {
-            let output = desk.output;
-            sheet::told(output, desk.numbers[0]);
-        }
-        _ => {
-            let bytes = desk.bytes;
-            endings::told(bytes, desk.count);
-        }
+fn told(rt: &impl Print, desk: &Desk) -> io::Result<()> {
+    match desk.act {
+        b'A' => print::field(rt, desk.refusal),
+        b'V' => print::field(rt, desk.register),
+        b'N' => print::entry(rt, &desk.row, desk.numbers[0]),
+        b'M' => print::entry(rt, &desk.memory, desk.numbers[0]),
+        b'F' => figures::asked(rt, &desk.row),
+        b'B' => print::bytes(rt, &desk.output),
+        b'T' => sheet::told(rt, &desk.output, desk.numbers[0]),
+        _ => endings::told(rt, &desk.bytes, desk.count),
     }
 }

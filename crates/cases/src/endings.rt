@@ -1,23 +1,24 @@
 // How a session file ends.
 use crate::print;
+use console::within;
 use file_rules::End;
 use kinds::fault_number;
+use std::io;
 
-fn ended(end: End) {
+fn ended(rt: &impl Print, end: End) -> io::Result<()> {
     match end {
-        End::File => print::field(0),
+        End::File => print::field(rt, 0),
         End::Refused(why, place) => {
-            print::field(fault_number(why));
-            print::field((place % 65537) as u32);
+            print::field(rt, fault_number(why))?;
+            print::field(rt, (place % 65537) as u32)
         }
     }
 }
 
 // The first `count` bytes are the file.
-pub(crate) fn told(bytes: [u8; 16], count: u8) {
+pub(crate) fn told(rt: &impl Print, bytes: &[u8; 16], count: u8) -> io::Result<()> {
     let mut memory = [0u32; 8];
-    let n = io::count(count as isize, &bytes);
+    let n = within(count as usize, bytes);
     let r = run::run(&bytes[..n], &mut memory);
-    let end = r.end;
-    ended(end);
+    ended(rt, r.end)
 }

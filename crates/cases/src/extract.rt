@@ -1,10 +1,11 @@
 // A cut of a recording on the desk.
 use crate::desk::Desk;
 use crate::print;
+use std::io;
 use writer::cut;
 
 // Of the first n numbers of three groups of four channels, the thousands of a number being its group, and the units its channel.
-pub(crate) fn extracted(mut desk: Desk) -> Desk {
+pub(crate) fn extracted(rt: &impl Print, desk: &mut Desk) -> io::Result<()> {
     let recording = [
         1000u16, 1001, 1002, 1003, 2000, 2001, 2002, 2003, 3000, 3001, 3002, 3003,
     ];
@@ -20,8 +21,7 @@ pub(crate) fn extracted(mut desk: Desk) -> Desk {
         &mut output,
         numbers[5] as usize,
     );
-    print::field(w.refusal);
-    print::field((w.place % 41) as u32);
     desk.output = output;
-    desk
+    print::field(rt, w.refusal)?;
+    print::field(rt, (w.place % 41) as u32)
 }

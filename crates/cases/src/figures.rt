@@ -1,11 +1,12 @@
 // The rate question.
 use crate::print;
 use bridge::nergutsai_rate;
+use std::io;
 
-pub(crate) fn asked(row: [u32; 55]) {
+pub(crate) fn asked(rt: &impl Print, row: &[u32; 55]) -> io::Result<()> {
     let mut figures = [99u32; 3];
-    nergutsai_rate(&row, &mut figures);
-    print::field(figures[0]);
-    print::field(figures[1]);
-    print::field(figures[2]);
+    nergutsai_rate(row, &mut figures);
+    print::field(rt, figures[0])?;
+    print::field(rt, figures[1])?;
+    print::field(rt, figures[2])
 }

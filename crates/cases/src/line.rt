@@ -2,6 +2,7 @@
 use crate::acts::done;
 use crate::desk::Desk;
 use crate::print;
+use std::io;
 
 // Whether the name is over with c.
 fn is_named(before: bool, c: u8) -> bool {
@@ -14,47 +15,43 @@ fn with_digit(number: u32, c: u8) -> u32 {
 }
 
 // The act of this letter is begun.
-fn begun(mut desk: Desk, c: u8) -> Desk {
-    let zeros = [0u32; 6];
+fn begun(desk: &mut Desk, c: u8) {
     desk.act = c;
     desk.count = 0;
-    desk.numbers = zeros;
-    desk
+    desk.numbers = [0; 6];
 }
 
 // A number of the act is whole.
-fn pushed(mut desk: Desk) -> Desk {
+fn pushed(desk: &mut Desk) {
     let n = desk.number;
     let count = desk.count;
     desk.numbers[(count % 6) as usize] = n;
     desk.bytes[(count % 16) as usize] = (n % 256) as u8;
     desk.count = count % 16 + 1;
     desk.number = 0;
-    desk
 }
 
 // An act is a word with a capital, and a full stop or its numbers, as `Answer.` and `Set(1, 3)`. Small letters and blanks are for the
 // reader.
-fn acted(mut desk: Desk, c: u8) -> Desk {
+fn acted(rt: &impl Print, desk: &mut Desk, c: u8) -> io::Result<()> {
     match c {
-        b'0'..=b'9' => {
-            desk.number = with_digit(desk.number, c);
-            desk
-        }
+        b'0'..=b'9' => desk.number = with_digit(desk.number, c),
         b',' => pushed(desk),
-        b')' => done(pushed(desk)),
-        b'.' => done(desk),
+        b')' => {
+            pushed(desk);
+            return done(rt, desk);
+        }
+        b'.' => return done(rt, desk),
         b'A'..=b'Z' => begun(desk, c),
-        _ => desk,
+        _ => {}
     }
+    Ok(())
 }
 
-pub(crate) fn read(mut desk: Desk, c: u8) -> Desk {
-    let named = is_named(desk.named, c);
-    desk.named = named;
-    if named {
-        return acted(desk, c);
+pub(crate) fn read(rt: &impl Print, desk: &mut Desk, c: u8) -> io::Result<()> {
+    desk.named = is_named(desk.named, c);
+    if desk.named {
+        return acted(rt, desk, c);
     }
-    print::letter(c);
-    desk
+    print::letter(rt, c)
 }

@@ -2,12 +2,14 @@
 // `stdin`, so that one more is no code more. Nothing is promised of what is written; every function is proved safe.
 #![tactic(auto)]
 
+use console::read_all;
 use desk::cleared;
 use line::read;
+use std::io;
 
 mod acts;
-mod board;
 mod desk;
+mod device;
 mod endings;
 mod extract;
 mod figures;
@@ -15,18 +17,17 @@ mod line;
 mod print;
 mod sheet;
 
-fn work(text: &[u8]) {
+fn work(rt: &impl Print, text: &[u8]) -> io::Result<()> {
     let mut desk = cleared(false);
-    let mut i: usize = 0;
-    while i < text.len() {
-        desk = read(desk, text[i]);
-        i += 1;
+    for c in text {
+        read(rt, &mut desk, *c)?;
     }
+    Ok(())
 }
 
 // There is room for almost twice the cases of today. A longer file is cut, and so is what is printed of it.
-fn main() {
+fn main(rt: HostRuntime) -> io::Result<()> {
     let mut text = [0u8; 32768];
-    let n = io::read_full(0, &mut text);
-    work(&text[..n]);
+    let n = read_all(&mut rt.stdin(), &mut text)?;
+    work(&rt, &text[..n])
 }

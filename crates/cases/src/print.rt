@@ -1,41 +1,39 @@
 // What the program writes: the letters of a name, and numbers with a blank before each.
-pub(crate) fn letter(c: u8) {
-    let one = [c];
-    io::write_all(1, &one);
+use std::io;
+
+pub(crate) fn letter(rt: &impl Print, c: u8) -> io::Result<()> {
+    rt.write_all(&[c])
 }
 
-pub(crate) fn field(n: u32) {
-    io::write_all(1, b" ");
-    io::print_decimal(1, n as u64);
+pub(crate) fn field(rt: &impl Print, n: u32) -> io::Result<()> {
+    print!(rt; " {n}")
 }
 
 // An entry of a row or a memory.
-pub(crate) fn entry(entries: &[u32], at: u32) {
+pub(crate) fn entry(rt: &impl Print, entries: &[u32], at: u32) -> io::Result<()> {
     let i = at as usize;
     if i < entries.len() {
-        field(entries[i]);
+        return field(rt, entries[i]);
     }
+    Ok(())
 }
 
 // All entries of a row.
-pub(crate) fn entries(row: &[u32; 6]) {
-    field(row[0]);
-    field(row[1]);
-    field(row[2]);
-    field(row[3]);
-    field(row[4]);
-    field(row[5]);
+pub(crate) fn entries(rt: &impl Print, row: &[u32; 6]) -> io::Result<()> {
+    for n in row {
+        field(rt, *n)?;
+    }
+    Ok(())
 }
 
-fn byte(b: u8) {
-    field(b as u32);
+fn byte(rt: &impl Print, b: u8) -> io::Result<()> {
+    field(rt, b as u32)
 }
 
 // All bytes of an output.
-pub(crate) fn bytes(bytes: &[u8; 40]) {
-    let mut i: usize = 0;
-    while i < 40 {
-        byte(bytes[i]);
-        i += 1;
+pub(crate) fn bytes(rt: &impl Print, bytes: &[u8; 40]) -> io::Result<()> {
+    for b in bytes {
+        byte(rt, *b)?;
     }
+    Ok(())
 }

@@ -20,13 +20,8 @@ fn with(sum: u32, b: u8) -> u32 {
 // Of the first n bytes of a text, or of all where it has fewer. So a number out of an enum will do, with no promise about the enum.
 pub(crate) fn of(text: &[u8], n: usize) -> u32 {
     let mut sum: u32 = 0xFFFFFFFF;
-    let mut i: usize = 0;
-    while i < text.len() {
-        if n <= i {
-            return sum ^ 0xFFFFFFFF;
-        }
-        sum = with(sum, text[i]);
-        i += 1;
+    for b in text.iter().take(n) {
+        sum = with(sum, *b);
     }
     sum ^ 0xFFFFFFFF
 }

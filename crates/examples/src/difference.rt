@@ -8,18 +8,16 @@ pub(crate) enum Difference {
 
 // The first place where two texts differ; where one goes on after the other has ended, that is the end of the shorter.
 pub(crate) fn first_difference(a: &[u8], b: &[u8]) -> Difference {
-    let mut i: usize = 0;
-    while i < a.len() {
+    for i in 0..a.len() {
         if b.len() <= i {
             return Difference::At(i);
         }
         if a[i] != b[i] {
             return Difference::At(i);
         }
-        i += 1;
     }
     if a.len() < b.len() {
-        return Difference::At(i);
+        return Difference::At(a.len());
     }
     Difference::Nowhere
 }

@@ -5,13 +5,13 @@
 
 ghost use Rattle.std.specs.Prelude.{◌≡◌, length};
 
-use console::{Input, within};
+use console::within;
 use difference::{Difference, first_difference};
 use document::blocks;
 use files::{file_room, read};
 use hex_text::{Decoded, decode};
-use libc::STDOUT_FILENO;
 use listing::{Listed, list};
+use std::io;
 
 mod difference;
 mod document;
@@ -31,95 +31,81 @@ fn listing_room() -> [u8; 721056]
     [0u8; 721056]
 }
 
-fn say(name: &[u8], what: &[u8]) {
-    io::write_all(STDOUT_FILENO, name);
-    io::write_all(STDOUT_FILENO, what);
-}
-
 // Bytes are counted from 0, as in the `FILE` line of a listing.
-fn say_place(name: &[u8], what: &[u8], at: usize) {
-    say(name, what);
-    io::print_decimal(STDOUT_FILENO, at as u64);
-    io::write_all(STDOUT_FILENO, b"\n");
-}
-
-fn compare(name: &[u8], listed: &[u8], expected: &[u8]) {
+fn compare(rt: &impl Print, name: &str, listed: &[u8], expected: &[u8]) -> io::Result<()> {
     match first_difference(listed, expected) {
-        Difference::Nowhere => say(name, b" as expected\n"),
-        Difference::At(place) => say_place(name, b" differs at byte ", place),
+        Difference::Nowhere => println!(rt; "{name} as expected"),
+        Difference::At(place) => println!(rt; "{name} differs at byte {place}"),
     }
 }
 
-fn play(name: &[u8], session: &[u8], expected: &[u8]) {
+fn play(rt: &impl Print, name: &str, session: &[u8], expected: &[u8]) -> io::Result<()> {
     let mut memory = memory_room();
     let mut out = listing_room();
     match list(session, &mut memory, &mut out) {
         Listed::Text(n) => {
             let k = within(n, &out);
-            compare(name, &out[..k], expected);
+            compare(rt, name, &out[..k], expected)
         }
         // never with the room above
-        Listed::Short(_) => say(name, b" is too long\n"),
+        Listed::Short(_) => println!(rt; "{name} is too long"),
     }
 }
 
-fn play_text(name: &[u8], text: &[u8], expected: &[u8]) {
+fn play_text(rt: &impl Print, name: &str, text: &[u8], expected: &[u8]) -> io::Result<()> {
     let mut session = file_room();
     match decode(text, &mut session) {
         Decoded::Bytes(n) => {
             let k = within(n, &session);
-            play(name, &session[..k], expected);
+            play(rt, name, &session[..k], expected)
         }
-        Decoded::Full => say(name, b" is too long\n"),
-        Decoded::Fault(at) => say_place(name, b" is not hex text at byte ", at),
+        Decoded::Full => println!(rt; "{name} is too long"),
+        Decoded::Fault(at) => println!(rt; "{name} is not hex text at byte {at}"),
     }
 }
 
 // NAME.hex against NAME.txt
-fn show(name: &[u8]) {
+fn show(rt: &HostRuntime, name: &str) -> io::Result<()> {
     let mut text = file_room();
-    let Input::Bytes(n) = read(name, b".hex", &mut text) else {
-        say(name, b".hex cannot be read\n");
-        return;
+    let Ok(n) = read(rt, name, ".hex", &mut text) else {
+        return println!(rt; "{name}.hex cannot be read");
     };
     let mut expected = file_room();
-    let Input::Bytes(m) = read(name, b".txt", &mut expected) else {
-        say(name, b".txt cannot be read\n");
-        return;
+    let Ok(m) = read(rt, name, ".txt", &mut expected) else {
+        return println!(rt; "{name}.txt cannot be read");
     };
     let k = within(n, &text);
     let j = within(m, &expected);
-    play_text(name, &text[..k], &expected[..j]);
+    play_text(rt, name, &text[..k], &expected[..j])
 }
 
 // The blocks of a document: those of bytes, joined, are a session, and the one of a listing is its listing.
-fn show_blocks(name: &[u8], doc: &[u8]) {
+fn show_blocks(rt: &impl Print, name: &str, doc: &[u8]) -> io::Result<()> {
     let mut text = file_room();
     let mut expected = file_room();
     let n = blocks(doc, b"```hex", &mut text);
     let m = blocks(doc, b"```listing", &mut expected);
     let k = within(n, &text);
     let j = within(m, &expected);
-    play_text(name, &text[..k], &expected[..j]);
+    play_text(rt, name, &text[..k], &expected[..j])
 }
 
-fn show_document(name: &[u8]) {
+fn show_document(rt: &HostRuntime, name: &str) -> io::Result<()> {
     let mut doc = file_room();
-    let Input::Bytes(n) = read(name, b".md", &mut doc) else {
-        say(name, b".md cannot be read\n");
-        return;
+    let Ok(n) = read(rt, name, ".md", &mut doc) else {
+        return println!(rt; "{name}.md cannot be read");
     };
     let k = within(n, &doc);
-    show_blocks(name, &doc[..k]);
+    show_blocks(rt, name, &doc[..k])
 }
 
-fn main() {
-    show(b"scope");
-    show(b"sequential-direct");
-    show(b"simultaneous-direct");
-    show(b"continuous");
-    show(b"periodic");
-    show(b"burst");
-    show(b"sequencing");
-    show_document(b"SESSION");
+fn main(rt: HostRuntime) -> io::Result<()> {
+    show(&rt, "scope")?;
+    show(&rt, "sequential-direct")?;
+    show(&rt, "simultaneous-direct")?;
+    show(&rt, "continuous")?;
+    show(&rt, "periodic")?;
+    show(&rt, "burst")?;
+    show(&rt, "sequencing")?;
+    show_document(&rt, "SESSION")
 }

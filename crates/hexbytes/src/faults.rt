@@ -1,11 +1,7 @@
 // What is wrong with a text, in words on standard error: the line, and the word in it.
 ghost use Rattle.std.specs.Prelude.{◌≤◌};
 
-use libc::STDERR_FILENO;
-
-pub(crate) fn say(text: &[u8]) {
-    io::write_all(STDERR_FILENO, text);
-}
+use std::io;
 
 // 0 past the end of the text
 fn char_at(text: &[u8], at: usize) -> u8 {
@@ -29,13 +25,11 @@ fn one_for_newline(c: u8) -> u64
 // Lines are counted from 1, as editors do.
 fn line_of(text: &[u8], at: usize) -> u64 {
     let mut line: u64 = 1;
-    let mut i: usize = 0;
-    while i < text.len() {
+    for i in 0..text.len() {
         if at <= i {
             return line;
         }
         line += one_for_newline(text[i]);
-        i += 1;
     }
     line
 }
@@ -61,45 +55,42 @@ fn word_start(text: &[u8], at: usize) -> usize {
 }
 
 // A character, where a terminal shows it as one; `?` for any other.
-fn say_char(c: u8) {
-    if (32 < c) & (c < 127) {
-        say(&[c]);
+fn say_char(rt: &impl Eprint, c: u8) -> io::Result<()> {
+    let shown = if (32 < c) & (c < 127) {
+        char::from(c)
     } else {
-        say(b"?");
-    }
+        '?'
+    };
+    eprint!(rt; "{shown}")
 }
 
 // The word that begins at a place, and of a long one its first 24 characters.
-fn say_word(text: &[u8], start: usize) {
+fn say_word(rt: &impl Eprint, text: &[u8], start: usize) -> io::Result<()> {
     let mut at = start;
-    let mut n: usize = 0;
-    while n < 24 {
+    for _ in 0..24 {
         let c = char_at(text, at);
         if ends_word(c) {
-            return;
+            return Ok(());
         }
-        say_char(c);
-        n += 1;
+        say_char(rt, c)?;
         at = next(text, at);
     }
-    say(b"..");
+    eprint!(rt; "..")
 }
 
-pub(crate) fn say_fault(text: &[u8], at: usize) {
-    say(b"hexbytes: line ");
-    io::print_decimal(STDERR_FILENO, line_of(text, at));
+pub(crate) fn say_fault(rt: &impl Eprint, text: &[u8], at: usize) -> io::Result<()> {
+    let line = line_of(text, at);
+    eprint!(rt; "hexbytes: line {line}")?;
     let c = char_at(text, at);
     if c == 13 {
-        say(b": a carriage return inside the line; a line ends in a new line, or in both\n");
-        return;
+        return eprintln!(rt;
+            ": a carriage return inside the line; a line ends in a new line, or in both"
+        );
     }
     if (c < 32) | (c == 127) {
-        say(b": a control character, ");
-        io::print_hex(STDERR_FILENO, c as u64, 2);
-        say(b"h, which hex text has none of\n");
-        return;
+        return eprintln!(rt; ": a control character, {c:02x}h, which hex text has none of");
     }
-    say(b": \"");
-    say_word(text, word_start(text, at));
-    say(b"\" is not hex: two digits a byte, blanks between, # starts a comment\n");
+    eprint!(rt; ": \"")?;
+    say_word(rt, text, word_start(text, at))?;
+    eprintln!(rt; "\" is not hex: two digits a byte, blanks between, # starts a comment")
 }

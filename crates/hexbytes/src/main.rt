@@ -1,11 +1,11 @@
-// Reads hex text from standard input to its end and writes the bytes that it says: the rest is crate `hex`. On standard error it
+// Reads hex text from standard input to its end and writes the bytes that it says: the rest is crate `hex_text`. On standard error it
 // says how many bytes they are, or, where it writes none, what is wrong.
 #![tactic(auto)]
 
 ghost use Rattle.std.specs.Prelude.{◌≡◌, length};
 
 use console::{Input, read_input, within, write_output};
-use faults::{say, say_fault};
+use faults::say_fault;
 use hex_text::{Decoded, decode};
 
 mod faults;
@@ -24,34 +24,38 @@ fn bytes_room() -> [u8; 65537]
     [0u8; 65537]
 }
 
-fn give(bytes: &[u8]) {
-    if write_output(b"hexbytes", bytes) {
-        say(b"hexbytes: ");
-        io::print_decimal(libc::STDERR_FILENO, bytes.len() as u64);
-        say(b" bytes\n");
+// A number that cannot be said on standard error is said nowhere.
+fn give(rt: &HostRuntime, bytes: &[u8]) {
+    if write_output(rt, b"hexbytes", bytes) {
+        let n = bytes.len();
+        let _ = eprintln!(rt; "hexbytes: {n} bytes");
     }
 }
 
-fn show(text: &[u8]) {
+fn show(rt: &HostRuntime, text: &[u8]) {
     let mut out = bytes_room();
     match decode(text, &mut out) {
         Decoded::Bytes(n) => {
             let k = within(n, &out);
-            give(&out[..k]);
+            give(rt, &out[..k]);
         }
-        Decoded::Full => give(&out),
-        Decoded::Fault(at) => say_fault(text, at),
+        Decoded::Full => give(rt, &out),
+        Decoded::Fault(at) => {
+            let _ = say_fault(rt, text, at);
+        }
     }
 }
 
-fn main() {
+fn main(rt: HostRuntime) {
     let mut text = text_room();
-    if let Input::Bytes(n) = read_input(b"hexbytes", &mut text) {
+    if let Input::Bytes(n) = read_input(&rt, b"hexbytes", &mut text) {
         if 1048576 < n {
-            say(b"hexbytes: the text is longer than 1048576 bytes, the most that is read\n");
+            let _ = eprintln!(rt;
+                "hexbytes: the text is longer than 1048576 bytes, the most that is read"
+            );
         } else {
             let k = within(n, &text);
-            show(&text[..k]);
+            show(&rt, &text[..k]);
         }
     }
 }

@@ -27,20 +27,20 @@ fn output_room() -> [u8; 1441952]
     [0u8; 1441952]
 }
 
-fn show(file: &[u8]) {
+fn show(rt: &HostRuntime, file: &[u8]) {
     let mut memory = memory_room();
     let mut out = output_room();
     // never `Short` with the room above
     if let Listed::Text(n) = listing::list(file, &mut memory, &mut out) {
         let k = within(n, &out);
-        write_output(b"rehearse", &out[..k]);
+        write_output(rt, b"rehearse", &out[..k]);
     }
 }
 
-fn main() {
+fn main(rt: HostRuntime) {
     let mut file = file_room();
-    if let Input::Bytes(n) = read_input(b"rehearse", &mut file) {
+    if let Input::Bytes(n) = read_input(&rt, b"rehearse", &mut file) {
         let k = within(n, &file);
-        show(&file[..k]);
+        show(&rt, &file[..k]);
     }
 }

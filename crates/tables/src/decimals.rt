@@ -1,6 +1,8 @@
 // An f32 as a decimal number, exactly. The volts of a table are whole numbers of 65,536ths and no more than 10 in size, so that each step
 // here is exact, and sixteen digits behind the point are enough.
 
+use std::io;
+
 // How often 1 can be taken from a number, up to ten times, and what is left.
 #[derive(Clone, Copy)]
 struct Parted {
@@ -19,19 +21,22 @@ fn taken(x: f32) -> Parted {
 }
 
 // The digits behind the point; none where nothing is left.
-fn fraction(x: f32) {
+fn fraction(rt: &impl Print, x: f32) -> io::Result<()> {
     if x == 0.0 {
-        return;
+        return Ok(());
     }
-    io::write_all(1, b".");
+    print!(rt; ".")?;
     let mut rest = x;
-    let mut digits: u64 = 0;
-    while digits < 16 && rest != 0.0 {
+    for _ in 0..16 {
+        if rest == 0.0 {
+            break;
+        }
         let t = taken(rest * 10.0);
-        io::print_decimal(1, t.ones);
+        let digit = t.ones;
+        print!(rt; "{digit}")?;
         rest = t.rest;
-        digits += 1;
     }
+    Ok(())
 }
 
 // A number that is below zero, and zero itself with the sign of one.
@@ -39,16 +44,17 @@ pub(crate) fn is_negative(x: f32) -> bool {
     (x < 0.0) | (1.0 / x < 0.0)
 }
 
-fn number(x: f32) {
+fn number(rt: &impl Print, x: f32) -> io::Result<()> {
     let t = taken(x);
-    io::print_decimal(1, t.ones);
-    fraction(t.rest);
+    let whole = t.ones;
+    print!(rt; "{whole}")?;
+    fraction(rt, t.rest)
 }
 
-pub(crate) fn volts(x: f32) {
+pub(crate) fn volts(rt: &impl Print, x: f32) -> io::Result<()> {
     if is_negative(x) {
-        io::write_all(1, b"-");
-        return number(-x);
+        print!(rt; "-")?;
+        return number(rt, -x);
     }
-    number(x)
+    number(rt, x)
 }

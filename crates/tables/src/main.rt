@@ -5,9 +5,10 @@
 
 ghost use Rattle.std.specs.Prelude.{◌≤◌, length};
 
-use console::within;
+use console::{read_all, within};
 use hex_text::{Decoded, decode};
 use sizes::smallest_size;
+use std::io;
 use volts::volts;
 
 mod decimals;
@@ -29,20 +30,20 @@ fn place_of(text: &[u8], from: usize, c: u8) -> usize
 }
 
 // On a board with a depth of 8 values at most. The memory has values that no load stores: so what the run left there can be seen.
-fn play(session: &[u8]) {
+fn play(rt: &impl Print, session: &[u8]) -> io::Result<()> {
     let mut memory = [7000000u32; 8];
     let t = volts(session, &mut memory);
     let channels = t.channels;
-    print::table(t.refusal, channels);
-    print::memory(&memory);
+    print::table(rt, t.refusal, channels)?;
+    print::memory(rt, &memory)
 }
 
 // On a board with a depth of 32 values at most, and the same values in the memory.
-fn search(session: &[u8]) {
+fn search(rt: &impl Print, session: &[u8]) -> io::Result<()> {
     let mut memory = [7000000u32; 32];
     let a = smallest_size(session, &mut memory);
-    print::size(a.refusal, a.code);
-    print::memory(&memory);
+    print::size(rt, a.refusal, a.code)?;
+    print::memory(rt, &memory)
 }
 
 // Whether the smallest size is asked.
@@ -53,40 +54,41 @@ fn asks_size(text: &[u8]) -> bool {
     text[1] == b'?'
 }
 
-fn tell(size: bool, session: &[u8]) {
+fn tell(rt: &impl Print, size: bool, session: &[u8]) -> io::Result<()> {
     if size {
-        return search(session);
+        return search(rt, session);
     }
-    play(session)
+    play(rt, session)
 }
 
 // The name of a session, and what it says.
-fn named(text: &[u8]) {
+fn named(rt: &impl Print, text: &[u8]) -> io::Result<()> {
     let end = place_of(text, 0, b'\n');
-    io::write_all(1, &text[..end]);
-    io::write_all(1, b"\n");
+    rt.write_all(&text[..end])?;
+    println!(rt)?;
     let mut session = [0u8; 512];
     match decode(&text[end..], &mut session) {
         Decoded::Bytes(n) => {
             let k = within(n, &session);
-            tell(asks_size(text), &session[..k]);
+            tell(rt, asks_size(text), &session[..k])
         }
-        Decoded::Full => print::line(b"  is too long"),
-        Decoded::Fault(_) => print::line(b"  is not hex text"),
+        Decoded::Full => print::line(rt, "  is too long"),
+        Decoded::Fault(_) => print::line(rt, "  is not hex text"),
     }
 }
 
-fn work(text: &[u8]) {
+fn work(rt: &impl Print, text: &[u8]) -> io::Result<()> {
     let mut at = place_of(text, 0, b'=');
     while at < text.len() {
         let end = place_of(text, at + 1, b'=');
-        named(&text[at..end]);
+        named(rt, &text[at..end])?;
         at = end;
     }
+    Ok(())
 }
 
-fn main() {
+fn main(rt: HostRuntime) -> io::Result<()> {
     let mut text = [0u8; 16384];
-    let n = io::read_full(0, &mut text);
-    work(&text[..n]);
+    let n = read_all(&mut rt.stdin(), &mut text)?;
+    work(&rt, &text[..n])
 }
