@@ -1,0 +1,38 @@
+use mathlib.Core.Path.{◌∙◌}
+use native.Mathlib.Omega.{arith}
+use borrow.Author.Tests.{eqb-false}
+use Rattle.rules.specs.Refusals.{first_of}
+use Rattle.rules.specs.Rates.{rate_refusal, rates}
+use Rattle.rules.proofs.Equal.{told_true, told_false}
+use Rattle.rules.proofs.Soundness.{sound_exactly}
+use Rattle.rates.proofs.rate.Goals as goal
+
+pub returns-then-not-is_sound : goal.returns-then-not-is_sound
+unfolding rates rate_refusal first_of
+returns-then-not-is_sound c = record { told = c.refused.ensures ∙ rw (told_false c.is_sound.ensures c.if-not-is_sound.true) }
+
+pub returns-then-external : goal.returns-then-external
+unfolding rates rate_refusal first_of
+returns-then-external c =
+    record { told = c.refused-then-external.ensures ∙ rw (told_true c.is_sound.ensures c.if-not-is_sound.false, c.if-external.true) }
+
+pub returns-then-undivided : goal.returns-then-undivided
+unfolding rates rate_refusal first_of
+returns-then-undivided c =
+    let sure = told_true c.is_sound.ensures c.if-not-is_sound.false in
+    record { told = c.refused-then-undivided.ensures ∙ rw (sure, c.if-external.false, c.if-undivided.true) }
+
+pub whole_reference-requires : goal.whole_reference-requires
+whole_reference-requires c =
+    ((sound_exactly _).0 (told_true c.is_sound.ensures c.if-not-is_sound.false)).nclk
+
+pub sample_rate-requires : goal.sample_rate-requires
+sample_rate-requires c =
+    let divided = eqb-false c.args.b.core.clock.divisor 0 c.if-undivided.false in
+    (((sound_exactly _).0 (told_true c.is_sound.ensures c.if-not-is_sound.false)).nclk, omega (arith, divided))
+
+pub returns : goal.returns
+unfolding rates rate_refusal first_of
+returns c =
+    let sure = told_true c.is_sound.ensures c.if-not-is_sound.false in
+    record { told = rw (sure, c.if-external.false, c.if-undivided.false, c.sample_rate.ensures, c.whole_reference.ensures) }
