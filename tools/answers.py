@@ -14,9 +14,6 @@ import sys
 
 PLAIN = {"args", "requires", "ranges", "well_formed", "lifetimes", "type_inv"}
 PATH = re.compile(r"(?<![\w.'₀-])([A-Za-z_][\w'₀]*(?:[-_][\w'₀]+)*)((?:\.[\w'₀-]+)+)")
-ARG = r"(\([A-Za-z_][\w'₀.-]*\)|[A-Za-z_][\w'₀-]*(?:\.before)*(?![\w.'₀-]))"
-# behind a helper's name that is a let already
-DONE = "\u2060"
 TOKEN = re.compile(r"[^\s(){}\[\];,.\"`]+")
 
 
@@ -27,11 +24,16 @@ def norm(x):
 
 def key(x):
     k = norm(x)
-    return k[len("overflow-"):] if k.startswith("overflow-") else k
+    for made in ("overflow-", "nonzero-"):
+        if k.startswith(made):
+            return k[len(made):]
+    return k
 
 
 class Function:
-    def __init__(self, names):
+    def __init__(self, names, params, own):
+        self.params = params
+        self.own = own
         self.places = {p[0]: p for p in names["places"]}
         self.arms = {p[0]: a for p, a in zip(names["places"], names["arms"])}
         self.asked = {}
@@ -45,10 +47,9 @@ class Function:
             self.asked[k] = at[0]
         self.loops = names["loops"]
         self.changed = names["changed"]
+        self.lemmas = {}
+        self.opened = set()
         self.said = []
-        self.renamed = dict(names["args"])
-        self.helpers = {}
-        self.named, self.hoisted = {}, []
 
     def need(self, tie_name):
         k = key(tie_name)
@@ -82,17 +83,22 @@ class Function:
         if i == len(comps):
             return "place", place
         x, rest = comps[i], comps[i + 1:]
+        if x == "args" and rest and re.fullmatch(r"t\d+", rest[0]) and len(self.params.get(self.own, [])) >= int(rest[0][1:]):
+            rest = [self.params[self.own][int(rest[0][1:]) - 1]] + rest[1:]
         if x.replace("-", "_") in PLAIN:
             x = x.replace("-", "_")
-            if rest and f".{x} .{rest[0]}" in self.renamed:
-                rest[0] = self.renamed[f".{x} .{rest[0]}"].split(".")[-1]
             return "term", ".".join(["c", x] + rest)
         at = place
         while at is not None:
             old, new = self.places[at][2]
             if norm(old) == norm(x):
-                if rest[:1] == ["new"] and self.places[at][3]:
-                    rest = ["new"] + lent(self.places[at][3], rest[1:])
+                callee = self.params.get(self.places[at][3], [])
+                if rest and rest[0] in ("new", "auto"):
+                    k = 1
+                    while k < len(rest) and rest[k] == "1":
+                        k += 1
+                    if k < len(rest) and rest[k] == "0" and k - 1 < len(callee):
+                        rest = [rest[0], callee[k - 1]] + rest[k + 1:]
                 arm = covers[at]
                 best = None
                 for field, step, path in arm[2] if arm else []:
@@ -102,105 +108,72 @@ class Function:
                     return "term", ".".join(["c", arm[0], best[0]] + rest[len(best[1]):])
                 return "term", ".".join(["c", new] + rest)
             at = self.places[at][1]
+        bare = re.sub(r"-?\d+$", "", norm(x))
+        if bare != norm(x):
+            return self.resolve(goal, place, [bare] + rest)
         self.said.append(f"no step {x} at {place}: " + ".".join(comps))
         return "term", ".".join(["c"] + comps[i:])
 
-    def body(self, text, place, alias=None):
-        """An answer's text with its paths resolved; names that stand for places are written out. What it cites of the file's helpers goes
-        to self.hoisted, as lets."""
-        alias = dict(alias or {"c": place})
-        lines = []
+    def body(self, text, goal, place=None):
+        """The answer's text with its paths resolved; names that stand for places are written out, and lemmas on a place become typed lets."""
+        alias = {"c": place or goal}
+        prefix = {}
+        lines, lets = [], {}
         for line in text.split("\n"):
-            line = self.places_named(line, place, alias)
-            while True:
-                m = re.match(r"^(\s*)let ([A-Za-z_][\w'₀-]*) = ([A-Za-z_][\w'₀-]*)((?:\.before)*) in\s*(.*)$", line)
-                if not m or m.group(3) not in alias:
-                    break
-                kind, p = self.resolve(place, alias[m.group(3)], [c for c in m.group(4).split(".") if c])
-                alias[m.group(2)] = p
-                line = m.group(1) + m.group(5)
-            if not line.strip():
-                continue
-            line = self.helped(line, place, alias)
+            # a step that was matched on, or whose parts go by number: its name is written out
+            m = re.match(r"^(\s*)let ([A-Za-z_][\w'₀-]*) = (c|[A-Za-z_][\w'₀-]*)((?:\.[\w'₀-]+)+) in\s*$", line)
+            if m and m.group(3) in alias and m.group(3) not in prefix:
+                path = m.group(4)[1:].split(".")
+                step = [x for x in path if x != "before"]
+                if path[-1] == "given" or len(step) == 1 and re.search(r"(?<![\w.'-])" + re.escape(m.group(2)) + r"\.(?:new|auto|given)\.", text):
+                    alias[m.group(2)] = alias[m.group(3)]
+                    prefix[m.group(2)] = path
+                    continue
+            m = re.match(r"^(\s*)(.*?)let ([A-Za-z_][\w'₀-]*) = (c|[A-Za-z_][\w'₀-]*)((?:\.before)*) in\s*(.*)$", line)
+            if m and m.group(4) in alias and not m.group(2):
+                kind, p = self.resolve(goal, alias[m.group(4)], [c for c in m.group(5).split(".") if c])
+                alias[m.group(3)] = p
+                if not m.group(6):
+                    continue
+                line = m.group(1) + m.group(6)
+            for name, (at, kind_of, proof, opens) in self.lemmas.items():
+                call = re.compile(r"(?<![\w.'-])" + re.escape(name) + r" (" + "|".join(map(re.escape, alias)) + r")((?:\.before)*)(?![\w.'-])")
+                if call.search(line):
+                    line = re.sub(r"\(" + re.escape(name) + r"\)", name, call.sub(name, line))
+                    if name not in lets:
+                        inner, before = self.body(proof, goal, at)
+                        said, _ = self.body(kind_of, goal, at)
+                        lets.update(before)
+                        lets[name] = f"let {name} : {' '.join(said.split())} = {' '.join(inner.split())} in"
+                        self.opened |= set(opens)
 
             def turn(m):
                 head = m.group(1)
                 if head not in alias:
                     return m.group(0)
-                comps = m.group(2)[1:].split(".")
-                kind, t = self.resolve(place, alias[head], comps)
+                comps = prefix.get(head, []) + m.group(2)[1:].split(".")
+                kind, t = self.resolve(goal, alias[head], comps)
                 if kind == "place":
                     self.said.append("a place is passed on: " + m.group(0))
                     return "c"
                 return t
             lines.append(PATH.sub(turn, line))
         for a in alias:
-            if a != "c" and any(re.search(r"(?<![\w.'-])" + re.escape(a) + r"(?![\w'.-]| =)", l) for l in lines):
+            if a != "c" and any(re.search(r"(?<![\w.'-])" + re.escape(a) + r"(?![\w'.-])", l) for l in lines):
                 self.said.append(f"the place {a} is passed on")
-        return "\n".join(lines)
+        return "\n".join(lines), lets
 
-    def place_of(self, arg, place, alias):
-        """The place that an argument of a helper is, or None."""
-        m = re.match(r"^\(?([A-Za-z_][\w'₀-]*)((?:\.before)*)\)?$", arg)
-        if not m or m.group(1) not in alias:
-            return None
-        kind, p = self.resolve(place, alias[m.group(1)], [c for c in m.group(2).split(".") if c])
-        return p if kind == "place" else None
-
-    def places_named(self, line, place, alias):
-        """Calls of helpers that answer a place, each as a new name for that place."""
-        for name, h in self.helpers.items():
-            if h["kind"] != "place":
-                continue
-            while True:
-                m = re.search(r"\(" + re.escape(name) + " " + ARG + r"\)|(?<![\w.'₀-])" + re.escape(name) + " " + ARG, line)
-                at = m and self.place_of(m.group(1) or m.group(2), place, alias)
-                if not at:
-                    break
-                kind, p = self.resolve(place, at, [c for c in h["text"].split(".")[1:]])
-                new = f"place{len(alias)}of"
-                alias[new] = p
-                line = line[:m.start()] + new + line[m.end():]
-        return line
-
-    def helped(self, line, place, alias):
-        """Calls of helpers that answer a value: each becomes a let."""
-        for name, h in self.helpers.items():
-            if h["kind"] == "place":
-                continue
-            while True:
-                m = re.search(r"(?<![\w.'₀-])" + re.escape(name) + " " + ARG, line)
-                at = m and self.place_of(m.group(1), place, alias)
-                if not at:
-                    break
-                inner = {h["binder"]: at}
-                said = self.hoist(name, h, at, place, inner)
-                start, end = m.start(), m.end()
-                if line[start - 1:start] == "(" and line[end:end + 1] == ")":
-                    start, end = start - 1, end + 1
-                line = line[:start] + said + DONE + line[end:]
-        return line
-
-    def hoist(self, name, h, at, place, inner):
-        if (name, at) not in self.named:
-            body = self.body(h["text"], place, inner)
-            said = self.body(h["type"], place, inner)
-            same = sum(1 for n, p in self.named if n == name)
-            self.named[(name, at)] = name + (f"-{same + 1}" if same else "")
-            self.hoisted.append(f"    let {self.named[(name, at)]} : {said} = {body} in")
-        return self.named[(name, at)]
-
-    def answer(self, text, place):
-        """The whole of an answer: its lets first."""
-        self.named, self.hoisted = {}, []
-        text = re.sub(r"^(\S+ c[^=\n]*=) (let )", r"\1\n    \2", text)
-        out = self.body(text, place)
-        if self.hoisted:
-            head, rest = out.split("=", 1)
-            rest = rest.strip("\n") if rest.startswith("\n") else "    " + rest.strip()
-            out = head + "=\n" + "\n".join(self.hoisted) + "\n" + rest
-        # a test of `!x` said `not x` before, and says what x is
-        return re.sub(r"not-(?:true|false) _ (c\.if-not-[\w.'-]+)", r"\1", out.replace(DONE, ""))
+    def lemma(self, text):
+        """A lemma on a place of the code, `f : (c : tie.After-x ..) → ..`, is kept for the answers that cite it."""
+        m = re.match(r"^((?:--[^\n]*\n)*)(?:pub )?(\S+) : \(c : tie\.(\S+?)(?: [^)]*)?\)\s*→ ([\s\S]*?)\n((?:unfolding[^\n]*\n)?)\2 c =\s*([\s\S]*)$", text)
+        if not m:
+            return False
+        at = [p for p in self.places if norm(p) == norm(m.group(3))]
+        if len(at) != 1:
+            self.said.append(f"no place {m.group(3)}")
+            return False
+        self.lemmas[m.group(2)] = (at[0], m.group(4), m.group(6), m.group(5).split()[1:])
+        return True
 
     def loop(self, tie_name):
         """(new name, the variables by position) of `invariant-loop`, `decreases-loop2` .."""
@@ -214,62 +187,6 @@ class Function:
                 return m.group(1) + "-" + new, order
         self.said.append(f"no loop for {tie_name}")
         return None
-
-
-SOURCES = {}
-
-
-def lent(callee, path):
-    """A path into what a callee left in its `&mut` parameters, `0`, `1.0`, `1.1.0` .., by the parameter's name."""
-    crate = callee.split("::")[0]
-    if crate not in SOURCES:
-        SOURCES[crate] = ""
-        for at, dirs, files in os.walk(os.path.join("crates", crate, "src")):
-            for name in sorted(files):
-                with open(os.path.join(at, name), encoding="utf-8") as h:
-                    SOURCES[crate] += h.read()
-    m = re.search(r"\bfn " + re.escape(callee.split("::")[-1]) + r"\b[^(]*\(([^)]*)\)", SOURCES[crate])
-    names = re.findall(r"(\w+): &(?:'\w+ )?mut\b", m.group(1)) if m else []
-    n = 0
-    while path[n:n + 1] == ["1"]:
-        n += 1
-    if path[n:n + 1] == ["0"] and n < len(names):
-        return [names[n]] + path[n + 1:]
-    return path
-
-
-def helper(joined):
-    """A lemma or an abbreviation over a place, as (name, what it is), or None."""
-    text = "\n".join(l for l in joined.split("\n") if not l.startswith("--"))
-    m = re.match(r"^(?:abbrev )?(?:pub )?(\S+) : tie\.[^→]*→([^\n]*)\n(?:unfolding [^\n]*\n)?\1 (\S+) =\s*([\s\S]*)$", text)
-    if m:
-        kind = "place" if m.group(2).strip().startswith("tie.") else "value"
-        return m.group(1), {"kind": kind, "binder": m.group(3), "text": m.group(4), "type": m.group(2).strip()}
-    m = re.match(r"^(?:pub )?(\S+) : \((\S+) : tie\.[^)]*\)\s*(?:→\s*)?([\s\S]*?)\n(?:unfolding [^\n]*\n)?\1 (\S+)((?: [^\s=]+)*) =\s*([\s\S]*)$", text)
-    if m:
-        said = m.group(3).replace(m.group(2) + ".", m.group(4) + ".") if m.group(2) != m.group(4) else m.group(3)
-        more = f"λ{m.group(5)}. " if m.group(5) else ""
-        return m.group(1), {"kind": "value", "binder": m.group(4), "text": more + m.group(6), "type": re.sub(r"\s+", " ", said).strip()}
-    return None
-
-
-def in_order(answers, new_names):
-    """Names of answers that answers cite, as they are now; and each below those that it cites."""
-    out = []
-    for name, text in answers:
-        for old, new in new_names.items():
-            if old != new:
-                text = re.sub(r"(?<![\w.'₀-])" + re.escape(old) + r"(?= c\b)(?! c =)", "⟨" + new + "⟩", text)
-        out.append((name, text.replace("⟨", "").replace("⟩", "")))
-    done, left = [], out
-    while left:
-        names = {n for n, t in left if n}
-        now = [(n, t) for n, t in left if not any(m != n and re.search(r"(?<![\w.'₀-])" + re.escape(m) + r" c\b", t) for m in names)]
-        if not now:
-            return [t for n, t in done + left]
-        done.append(now[0])
-        left.remove(now[0])
-    return [t for n, t in done]
 
 
 def split(text):
@@ -292,6 +209,10 @@ def split(text):
     return comments, uses, blocks
 
 
+def words(text, names):
+    return TOKEN.sub(lambda m: names.get(m.group(0), m.group(0)), text)
+
+
 def used(uses, text):
     words = set(TOKEN.findall(text))
     kept = []
@@ -309,7 +230,7 @@ def used(uses, text):
             name = n.split(" as ")[-1]
             if "◌" in name:
                 parts = [p for p in name.split("◌") if p]
-                if all(p in words for p in parts):
+                if name in words or all(p in words for p in parts):
                     names.append(n)
             elif name == "[]":
                 if "[]" in text:
@@ -321,48 +242,56 @@ def used(uses, text):
     return kept
 
 
-def turn(path, names, crate, where):
-    f = Function(names)
+def turn(path, names, crate, where, params):
+    f = Function(names, params, "::".join([crate] + where.split(".")))
     with open(path, encoding="utf-8") as h:
         comments, uses, blocks = split(h.read())
     uses = [u for u in uses if ".Statement." not in u and not u.endswith("Tie as tie")]
-    invariants, answers, new_names = [], [], {}
-    for b in blocks:
-        h = helper("\n".join(b))
-        if h:
-            f.helpers[h[0]] = h[1]
+    invariants, answers, renamed = [], [], {}
     for b in blocks:
         joined = "\n".join(b)
-        if helper(joined):
-            continue
         if re.search(r"^pub \S+ : \{M : Type 1\}", joined, re.M):
             continue
         m = re.search(r"^(?:abbrev )?(?:pub )?(\S+) : tie\.(\S+)(.*)$", joined, re.M)
         if not m:
-            answers.append((None, joined))
+            if not f.lemma(joined):
+                answers.append(joined)
             continue
         name, goal = m.group(1), m.group(2)
         if goal.startswith("Need-"):
             new, place = f.need(goal[5:])
-            if new is None:
+            if new is None and re.search(r"κs? =\s*search rules$| c =\s*search rules$", joined):
+                f.said.pop()
                 continue
-            new_names[name] = new
+            if new is None:
+                answers.append(joined)
+                continue
+            if name != new:
+                renamed[name] = new
             lines = joined.split("\n")
             rest = [l for l in lines if not re.match(r"^(?:pub )?\S+ : tie\.", l)]
             head = [l for l in rest if l.startswith(("--", "unfolding"))]
             body = [l for l in rest if not l.startswith(("--", "unfolding"))]
             text = "\n".join(body)
             text = re.sub(r"^" + re.escape(name) + r" c(?: κs)?(?= )", lambda k: new + " c", text, flags=re.M)
-            text = f.answer(text, place)
-            if re.sub(r"\s+", " ", text) == new + " c = search rules":
+            clause, _, right = text.partition(" =")
+            f.opened = set()
+            right, lets = f.body(right, place)
+            if lets:
+                right = "\n    " + "\n    ".join(lets.values()) + "\n    " + right.strip()
+            text = clause + " =" + right
+            if re.sub(r"\s+", " ", text) in (new + " c = search rules", new + " c = tt"):
                 continue
             notes = [h for h in head if h.startswith("--")]
-            opens = ["unfolding " + " ".join(n for n in h.split()[1:] if n not in f.helpers) for h in head if h.startswith("unfolding")]
-            answers.append((new, "\n".join(notes + [f"pub {new} : goal.{new}"] + opens + [text])))
+            opens = [h for h in head if h.startswith("unfolding")]
+            opened = sorted({w for h in opens for w in h.split()[1:]} | f.opened)
+            opens = ["unfolding " + " ".join(opened)] if opened else []
+            clause, _, rest = text.partition(" =")
+            answers.append(("\n".join(notes + [f"pub {new} : goal.{new}"] + opens + [clause + " ="]), rest))
         else:
             l = f.loop(goal.split(" ")[0])
             if l is None:
-                answers.append((None, joined))
+                answers.append(joined)
                 continue
             new, order = l
             lines = joined.split("\n")
@@ -373,11 +302,13 @@ def turn(path, names, crate, where):
             params = m2.group(1).split()
             if len(params) != len(order):
                 f.said.append(f"{name}: {len(params)} parameters, and {len(order)} variables")
-                answers.append((None, joined))
+                answers.append(joined)
                 continue
             table = dict(zip(params, order))
             out = re.sub(r"(?<![\w.'₀-])([A-Za-z_][\w'₀]*(?:-[\w'₀]+)*)(?![\w'₀-])", lambda k: table.get(k.group(1), k.group(1)), m2.group(2))
             invariants.append("\n".join([h for h in head if h.startswith("--")] + [f"abbrev pub {new} : goal.{new}"] + [h for h in head if h.startswith("unfolding")] + [f"{new} l = " + out]))
+    # an answer that cites another one
+    answers = [a if isinstance(a, str) else a[0] + words(a[1], renamed) for a in answers]
     folder = os.path.dirname(path)
     module = f"Rattle.{crate}.proofs.{where}"
     if invariants:
@@ -386,7 +317,7 @@ def turn(path, names, crate, where):
             h.write("\n".join(comments + used(uses, text) + [f"use {module}.Given as goal"]) + "\n\n" + text + "\n")
         comments = []
     if answers:
-        text = "\n\n".join(in_order(answers, new_names))
+        text = "\n\n".join(answers)
         with open(os.path.join(folder, "Answers.antt"), "w", encoding="utf-8") as h:
             h.write("\n".join(comments + used(uses, text) + [f"use {module}.Goals as goal"]) + "\n\n" + text + "\n")
     os.remove(path)
@@ -402,6 +333,10 @@ def main():
     crate = os.path.basename(os.path.normpath(folder))
     with open(listing, encoding="utf-8") as h:
         names = json.load(h)
+    params = {}
+    for k, v in names.items():
+        if k.endswith(".Lts"):
+            params.update(v["params"])
     for at, dirs, files in os.walk(os.path.join(folder, "proofs")):
         dirs.sort()
         if "Proof.antt" in files:
@@ -412,7 +347,7 @@ def main():
             if k not in names:
                 print(f"{where}: the check does not name its goals")
                 continue
-            turn(os.path.join(at, "Proof.antt"), names[k], crate, where)
+            turn(os.path.join(at, "Proof.antt"), names[k], crate, where, params)
 
 
 if __name__ == "__main__":

@@ -20,9 +20,9 @@ use Rattle.bridge.specs.Types.{Board, Event}
 use Rattle.bridge.specs.Calls.{Left, call_status, answer_row, left_by, left}
 use Rattle.bridge.specs.Promises.{Called}
 
-pub row_written : (b : Board) (row : List ℕ) → length row ≡ row_long → row_written b row ≡ board_row b
+pub row_written_lem : (b : Board) (row : List ℕ) → length row ≡ row_long → row_written b row ≡ board_row b
 unfolding row_written
-row_written b row long = rw (eq-eqb _ _ long)
+row_written_lem b row long = rw (eq-eqb _ _ long)
 
 pub read_whole : (row : List ℕ) (b : Board) → length row ≡ row_long → Told (told_of row) b → b ≡ board_at row
 unfolding told_of

@@ -61,8 +61,7 @@ fn put_reply(reply: Reply, row: &mut [u32], answer: &mut [u32])
 }
 
 // One event. Answers 0 where the call was understood, be the event done or refused; else why it was not (specs/Calls.antt).
-#[unsafe(no_mangle)]
-pub extern "C" fn nergutsai_event(
+pub fn nergutsai_event(
     row: &mut [u32],
     memory: &mut [u32],
     event: &[u32],
@@ -80,8 +79,7 @@ pub extern "C" fn nergutsai_event(
 
 // The rate question, which asks a record alone and leaves it as it is. Answers 0 where it was understood, be the figures given or
 // refused; else why it was not (specs/Calls.antt).
-#[unsafe(no_mangle)]
-pub extern "C" fn nergutsai_rate(row: &[u32], figures: &mut [u32]) -> u32
+pub fn nergutsai_rate(row: &[u32], figures: &mut [u32]) -> u32
     ensures { RateCalled row.now figures.old result figures.new }
 {
     if row.len() != ROW_LONG {

@@ -19,7 +19,7 @@ use Rattle.file_rules.specs.File.{byte_at, word_at, quad_at, settings_at, signal
 use Rattle.file_rules.specs.Bytes.{signal_kind, two, four, bytes_of, records_of, file_of, Fits, AllFit, none, next}
 use Rattle.file_rules.specs.Laws.{Known, Record, ended, half_length, short_body, length_zero, unknown, length_wrong, event, Reached, opened, passed, File-written}
 use Rattle.file_rules.specs.Laws.{ItemGiven, bad_version, first, later}
-use Rattle.file_rules.specs.Laws.{power_up as knownPowerUp, write as knownWrite, read as knownRead, signal as knownSignal}
+use Rattle.file_rules.specs.Laws.{power_up as known_power_up, write as known_write, read as known_read, signal as known_signal}
 use Rattle.file_rules.proofs.Lengths.{known_some}
 use Rattle.file_rules.proofs.Given.{given_one, item_given}
 use Rattle.file_rules.proofs.Walk.{reached_within, reached_item, session_opened, version_ends}
@@ -89,7 +89,7 @@ module _ (s : List ℕ) (bytes : (i : ℕ) → byte_at s i < 256) where
 
   record_bytes : (at k n : ℕ) → Known k n → byte_at s (at + 2) ≡ k → word_at s at ≡ n → part s at (2 + n) ≡ bytes_of (event_at s (at + 2))
   unfolding part event_at event_of
-  record_bytes at k n knownPowerUp e w =
+  record_bytes at k n known_power_up e w =
       let high : byte_at s at ≡ 0 = omega (arith, w) in
       let low : byte_at s (at + 1) ≡ 7 = omega (arith, w) in
       let own : event_at s (at + 2) ≡ power_up (settings_at s (at + 2 + 1)) = of_kind at _ e in
@@ -105,7 +105,7 @@ module _ (s : List ℕ) (bytes : (i : ℕ) → byte_at s i < 256) where
       ∷ [])
       ∙ (λ i. 0 ∷ 7 ∷ 1 ∷ x.fitted ∷ x.range ∷ x.filter ∷ x.kit ∷ sym (two_bytes (at + 2 + 1 + 4)) i)
       ∙ ap bytes_of (sym own)
-  record_bytes at k n knownWrite e w =
+  record_bytes at k n known_write e w =
       let high : byte_at s at ≡ 0 = omega (arith, w) in
       let low : byte_at s (at + 1) ≡ 6 = omega (arith, w) in
       let own : event_at s (at + 2) ≡ write (byte_at s (at + 2 + 1)) (quad_at s (at + 2 + 2)) = of_kind at _ e in
@@ -120,13 +120,13 @@ module _ (s : List ℕ) (bytes : (i : ℕ) → byte_at s i < 256) where
       ∙ (λ i. 0 ∷ 6 ∷ 2 ∷ byte_at s (at + 2 + 1) ∷ (sym (two_bytes (at + 2 + 2)) i ++ sym (two_bytes (at + 2 + 2 + 2)) i))
       ∙ (λ i. 0 ∷ 6 ∷ 2 ∷ byte_at s (at + 2 + 1) ∷ sym (four_bytes (at + 2 + 2)) i)
       ∙ ap bytes_of (sym own)
-  record_bytes at k n knownRead e w =
+  record_bytes at k n known_read e w =
       let high : byte_at s at ≡ 0 = omega (arith, w) in
       let low : byte_at s (at + 1) ≡ 2 = omega (arith, w) in
       let own : event_at s (at + 2) ≡ read (byte_at s (at + 2 + 1)) = of_kind at _ e in
       (λ i. high i ∷ low i ∷ (b (at + 1 + 1) (at + 2) (omega arith) ∙ e) i ∷ b (at + 1 + 1 + 1) (at + 2 + 1) (omega arith) i ∷ [])
       ∙ ap bytes_of (sym own)
-  record_bytes at k n (knownSignal j a c) e w =
+  record_bytes at k n (known_signal j a c) e w =
       let high : byte_at s at ≡ 0 = omega (arith, w) in
       let low : byte_at s (at + 1) ≡ 1 = omega (arith, w) in
       let here = b (at + 1 + 1) (at + 2) (omega arith) in
@@ -140,10 +140,10 @@ module _ (s : List ℕ) (bytes : (i : ℕ) → byte_at s i < 256) where
 
   event_fits : (at k n : ℕ) → Known k n → byte_at s (at + 2) ≡ k → Fits (event_at s (at + 2))
   unfolding event_of
-  event_fits at k n knownPowerUp e = subst Fits (sym (of_kind at _ e)) (bytes _, bytes _, bytes _, bytes _, word_small _)
-  event_fits at k n knownWrite e = subst Fits (sym (of_kind at _ e)) (bytes _, quad_small _)
-  event_fits at k n knownRead e = subst Fits (sym (of_kind at _ e)) (bytes _)
-  event_fits at k n (knownSignal j a c) e = subst Fits (sym (of_kind at _ e ∙ signal_event j _ _ _ a)) tt
+  event_fits at k n known_power_up e = subst Fits (sym (of_kind at _ e)) (bytes _, bytes _, bytes _, bytes _, word_small _)
+  event_fits at k n known_write e = subst Fits (sym (of_kind at _ e)) (bytes _, quad_small _)
+  event_fits at k n known_read e = subst Fits (sym (of_kind at _ e)) (bytes _)
+  event_fits at k n (known_signal j a c) e = subst Fits (sym (of_kind at _ e ∙ signal_event j _ _ _ a)) tt
 
   abbrev Fitting : Item → Type 0
   Fitting (Got e place) = Fits e

@@ -19,7 +19,7 @@ use Rattle.file_rules.specs.Row.{row_of, field, event_of_row}
 use Rattle.file_rules.specs.Bytes.{Fits}
 use Rattle.file_rules.specs.Writing.{widths, fit_widths, row_refusal}
 use Rattle.file_rules.specs.Laws.{Known}
-use Rattle.file_rules.specs.Laws.{power_up as knownPowerUp, write as knownWrite, read as knownRead, signal as knownSignal}
+use Rattle.file_rules.specs.Laws.{power_up as known_power_up, write as known_write, read as known_read, signal as known_signal}
 use Rattle.file_rules.specs.WritingLaws.{BadRow, unknown_kind, misfit, RowGiven, bad, good, Row-exactly, Row-back}
 use Rattle.file_rules.proofs.Lengths.{length_known, unknown_zero, zero_unknown}
 use Rattle.file_rules.proofs.Written.{row_read}
@@ -85,15 +85,15 @@ module _ (a b c d e : ℕ) where
 
   fitted : (k n : ℕ) → Known k n → fit_widths (a ∷ b ∷ c ∷ d ∷ e ∷ []) (widths k) ≡ true → RowGiven (k ∷ a ∷ b ∷ c ∷ d ∷ e ∷ []) 0
   unfolding widths
-  fitted k n knownPowerUp h =
+  fitted k n known_power_up h =
       good (power_up (record { fitted = a; range = b; filter = c; kit = d; firmware = e })) (all_below 1 1 1 1 2 h) refl
-  fitted k n knownWrite h =
+  fitted k n known_write h =
       let f = all_below 1 4 0 0 0 h in
       good (write a b) (f.0, f.1) (λ i. 2 ∷ a ∷ b ∷ none c f.2 i ∷ none d f.3 i ∷ none e f.4 i ∷ [])
-  fitted k n knownRead h =
+  fitted k n known_read h =
       let f = all_below 1 0 0 0 0 h in
       good (read a) f.0 (λ i. 3 ∷ a ∷ none b f.1 i ∷ none c f.2 i ∷ none d f.3 i ∷ none e f.4 i ∷ [])
-  fitted k n (knownSignal j l m) h =
+  fitted k n (known_signal j l m) h =
       let f = all_below 0 0 0 0 0 (ap (fit_widths (a ∷ b ∷ c ∷ d ∷ e ∷ [])) (sym (widths_signal j l)) ∙ h) in
       let kind = sym (signal_kind_lem j l m) in
       good (signal (signal_of j)) tt

@@ -16,7 +16,7 @@ use Rattle.file_rules.specs.declared.Item.TheVariants.{Got, Over}
 use Rattle.file_rules.specs.File.{byte_at, word_at, signal_of, event_of, event_at, item_at, on_item, from, session}
 use Rattle.file_rules.specs.Bytes.{kind_of, fields_of, bytes_of, records_of, file_of, Fits, AllFit, none, next}
 use Rattle.file_rules.specs.Laws.{Known, ended, event, Bytes-read, File-read, Refused-events, Row-read}
-use Rattle.file_rules.specs.Laws.{power_up as knownPowerUp, write as knownWrite, read as knownRead, signal as knownSignal}
+use Rattle.file_rules.specs.Laws.{power_up as known_power_up, write as known_write, read as known_read, signal as known_signal}
 use Rattle.file_rules.proofs.Given.{record_given, item_later}
 
 -- ---- Behind other bytes
@@ -47,15 +47,15 @@ module _ (xs zs : List ℕ) where
 
 -- its kind is known, and its length is that kind's
 pub known : (e : Event) → Known (kind_of e) (length (kind_of e ∷ fields_of e))
-known (power_up x) = knownPowerUp
-known (write o v) = knownWrite
-known (read o) = knownRead
-known (signal tick) = knownSignal 4 (omega arith) (omega arith)
-known (signal outside) = knownSignal 5 (omega arith) (omega arith)
-known (signal trigger) = knownSignal 6 (omega arith) (omega arith)
-known (signal passed) = knownSignal 7 (omega arith) (omega arith)
-known (signal failed) = knownSignal 8 (omega arith) (omega arith)
-known (signal settled) = knownSignal 9 (omega arith) (omega arith)
+known (power_up x) = known_power_up
+known (write o v) = known_write
+known (read o) = known_read
+known (signal tick) = known_signal 4 (omega arith) (omega arith)
+known (signal outside) = known_signal 5 (omega arith) (omega arith)
+known (signal trigger) = known_signal 6 (omega arith) (omega arith)
+known (signal passed) = known_signal 7 (omega arith) (omega arith)
+known (signal failed) = known_signal 8 (omega arith) (omega arith)
+known (signal settled) = known_signal 9 (omega arith) (omega arith)
 
 two_read : (n : ℕ) → n < 65536 → 256 * (n / 256 % 256) + n % 256 ≡ n
 two_read n h = omega arith

@@ -13,7 +13,7 @@ use Rattle.rules.specs.declared.Signal.TheVariants.{Passed as passed, Failed as 
 use Rattle.file_rules.specs.declared.Fault.{Fault}
 use Rattle.file_rules.specs.declared.Fault.TheVariants.{Version as version, Cut as cut, Length as wrong_length, Kind as unknown_kind}
 use Rattle.file_rules.specs.declared.End.{End}
-use Rattle.file_rules.specs.declared.End.TheVariants.{File as fileEnd, Refused as refusedAt}
+use Rattle.file_rules.specs.declared.End.TheVariants.{File as file_end, Refused as refused_at}
 use Rattle.file_rules.specs.declared.Item.{Item}
 use Rattle.file_rules.specs.declared.Item.TheVariants.{Got as got, Over as over}
 
@@ -33,8 +33,8 @@ pub record Verdict : Type 0 where
   pub place : ℕ
 
 abbrev pub verdict : End → Verdict
-verdict fileEnd = record { number = 0; place = 0 }
-verdict (refusedAt why p) = record { number = fault_number why; place = p }
+verdict file_end = record { number = 0; place = 0 }
+verdict (refused_at why p) = record { number = fault_number why; place = p }
 
 -- ---- Bytes
 
@@ -92,21 +92,21 @@ event_at s at = event_of (byte_at s at) (byte_at s (at + 1)) (quad_at s (at + 2)
 -- of a record that is whole: "length 0 (12), 13, 12"
 unfoldable pub whole_record : List ℕ → ℕ → Item
 whole_record s at =
-    cond (eqb (word_at s at) 0) (over (refusedAt wrong_length at))
-    (cond (eqb (length_of (byte_at s (at + 2))) 0) (over (refusedAt unknown_kind at))
+    cond (eqb (word_at s at) 0) (over (refused_at wrong_length at))
+    (cond (eqb (length_of (byte_at s (at + 2))) 0) (over (refused_at unknown_kind at))
     (cond (eqb (word_at s at) (length_of (byte_at s (at + 2)))) (got (event_at s (at + 2)) (at + 2 + word_at s at))
-    (over (refusedAt wrong_length at))))
+    (over (refused_at wrong_length at))))
 
 -- 01: "then per record 11, length 0 (12), 13, 12"
 unfoldable pub record_at : List ℕ → ℕ → Item
 record_at s at =
-    cond (leb (length s) at) (over fileEnd)
-    (cond (ltb (length s) (at + 2)) (over (refusedAt cut at))
-    (cond (ltb (length s) (at + 2 + word_at s at)) (over (refusedAt cut at)) (whole_record s at)))
+    cond (leb (length s) at) (over file_end)
+    (cond (ltb (length s) (at + 2)) (over (refused_at cut at))
+    (cond (ltb (length s) (at + 2 + word_at s at)) (over (refused_at cut at)) (whole_record s at)))
 
 -- 01: "Byte 01, then records"; "file 10, then .."
 unfoldable pub item_at : List ℕ → ℕ → Item
-item_at s zero = cond (eqb (byte_at s 0) 1) (record_at s 1) (over (refusedAt version 0))
+item_at s zero = cond (eqb (byte_at s 0) 1) (record_at s 1) (over (refused_at version 0))
 item_at s (suc at) = record_at s (suc at)
 
 -- ---- The whole file
@@ -122,7 +122,7 @@ on_item rest (over x) = record { events = []; end = x }
 
 -- from a place on; the first number bounds how many records are looked at
 unfoldable pub from : ℕ → List ℕ → ℕ → Session
-from zero s at = record { events = []; end = fileEnd }
+from zero s at = record { events = []; end = file_end }
 from (suc f) s at = on_item (from f s) (item_at s at)
 
 -- a file has fewer records than bytes

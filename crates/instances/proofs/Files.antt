@@ -22,7 +22,7 @@ use Rattle.file_rules.specs.Bytes.{records_of, file_of, Fits, AllFit, none, next
 use Rattle.file_rules.specs.Row.{row_of, field}
 use Rattle.file_rules.specs.Laws.{Known, read, signal, ended, half_length, short_body, length_zero, unknown, length_wrong, event}
 use Rattle.file_rules.specs.Laws.{ItemGiven, bad_version, first, later, Reached, opened, passed}
-use Rattle.file_rules.specs.Laws.{FileGiven, not_opened, in_length, in_body, zero_length, unknown_kind as unknownKindAt, wrong_length, done as allRead}
+use Rattle.file_rules.specs.Laws.{FileGiven, not_opened, in_length, in_body, zero_length, unknown_kind as unknown_kind_at, wrong_length, done as all_read}
 use Rattle.file_rules.specs.Laws.{every_kind}
 use Rattle.file_rules.specs.Writing.{sixes, events_in, rows_of, widths, fit_widths, row_refusal, first_bad, write_refusal, end_place, output_after}
 use Rattle.file_rules.specs.WritingLaws.{BadRow, unknown_kind, misfit, RowGiven, bad, good, WriteGiven, not_whole, bad_event, past_end, too_long, done}
@@ -228,7 +228,7 @@ cut_told (in_length p r a b) = b
 cut_told (in_body p r a b) = absurd (omega (arith, a))
 
 file_kind_told : (s : List ℕ) → FileGiven s 13 8 → (n : ℕ) → ¬ Known (byte_at s 10) n
-file_kind_told s (unknownKindAt p r w z u) = u
+file_kind_told s (unknown_kind_at p r w z u) = u
 
 behind_tick : Reached ten_behind 4
 behind_tick = passed 1 (opened refl) (lit≤ tt) tick_known
@@ -244,8 +244,8 @@ files_met =
       given_12_kind = (file_exactly short_read 12 1).1 (wrong_length 1 2 (opened refl) (lit≤ tt) (λ e. omega (arith, e)) read (λ e. omega (arith, e)));
       given_13 =
           (file_exactly ten_behind 13 8).1
-          (unknownKindAt 8 (passed 4 behind_tick (lit≤ tt) read) (lit≤ tt) (λ e. omega (arith, e)) unknown_10);
-      given_0 = (file_exactly one_tick 0 0).1 (allRead 4 (passed 1 (opened refl) (lit≤ tt) tick_known) (lit≤ tt));
+          (unknown_kind_at 8 (passed 4 behind_tick (lit≤ tt) read) (lit≤ tt) (λ e. omega (arith, e)) unknown_10);
+      given_0 = (file_exactly one_tick 0 0).1 (all_read 4 (passed 1 (opened refl) (lit≤ tt) tick_known) (lit≤ tt));
       told_10 = opening_told (0x02 ∷ []) ((file_exactly (0x02 ∷ []) 10 0).0 refl);
       told_11 = cut_told ((file_exactly half_behind 11 4).0 refl);
       told_13 = file_kind_told ten_behind ((file_exactly ten_behind 13 8).0 refl);

@@ -109,6 +109,7 @@ two_said : (x y : ℕ) (l : List ℕ) (ps : List (List ℕ))
     → LevelsSaid (x ∷ y ∷ []) ps
     → LevelsRead l x y
 two_said x y l ps e (level _ a xs qs p q (last _ b r s)) = (a, b, e, p, q, r, s)
+two_said x y l ps e (level _ a xs qs p q (level _ b ys rs r s nothing)) = elim nothing [ ]
 
 two_levels : LevelsRead (ascii "LEVELS 9000 0BEF\n") 0x9000 0x0BEF
 unfolding hex levels_in levels_line

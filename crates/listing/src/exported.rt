@@ -4,8 +4,7 @@ ghost use Rattle.listing.specs.Promises.{ListCalled};
 use crate::{Listed, list};
 
 // The listing of a session file, as so many bytes of text in the output; 0 where the output is too short, and nothing is written.
-#[unsafe(no_mangle)]
-pub extern "C" fn nergutsai_list(file: &[u8], memory: &mut [u32], out: &mut [u8]) -> usize
+pub fn nergutsai_list(file: &[u8], memory: &mut [u32], out: &mut [u8]) -> usize
     ensures { ListCalled file.now memory.old out.old result memory.new out.new }
 {
     let listed = list(file, memory, out);

@@ -13,6 +13,8 @@ mod shortcuts;
 mod tails;
 mod whole;
 
+pub use exported::nergutsai_list;
+
 // How a listing went: so many bytes of text; or the output is too short, and needs so many. The latter is no refusal of the file.
 #[derive(Clone, Copy)]
 pub enum Listed {

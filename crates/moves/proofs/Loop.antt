@@ -25,8 +25,8 @@ use Rattle.moves.proofs.Tested.{no_channels}
 -- ---- One value
 
 -- a bit of two numbers together is set where that of one is
-bit_or : (k x y : ℕ) → bit k (bit_or x y) ≡ bit k x || bit k y
-bit_or k x y =
+bit_or_lem : (k x y : ℕ) → bit k (bit_or x y) ≡ bit k x || bit k y
+bit_or_lem k x y =
     ap (λ (n : ℕ). eqb (n % 2) 1) (or_shr x y k)
     ∙ ap (λ (n : ℕ). eqb n 1) (or_mod (x / 2 ^ k) (y / 2 ^ k) 1)
     ∙ digit (x / 2 ^ k % 2) (y / 2 ^ k % 2) (mod-lt (x / 2 ^ k) (omega arith)) (mod-lt (y / 2 ^ k) (omega arith))
@@ -47,7 +47,7 @@ pub one_dealt : (binary again : Bool) (d k : ℕ) (levels : List ℕ) (ring : Ri
 unfolding deal_one
 one_dealt binary again d k levels ring marks m v level ring' m' l e r n =
     let same = l ∙ ap (coded binary) e in
-    let ended = bit_or 16 marks v ∙ ap (λ (x : ℕ). bit 16 marks || bit 16 x) e in
+    let ended = bit_or_lem 16 marks v ∙ ap (λ (x : ℕ). bit 16 marks || bit 16 x) e in
     λ i. dealing (set levels k (same i)) (r i) (ended i) (n i)
 
 -- ---- The loop

@@ -6,7 +6,7 @@ use native.Mathlib.Omega.{arith}
 use Rattle.rules.specs.Types.{Core, write}
 use Rattle.rules.specs.Bits.{bit, bits_of}
 use Rattle.rules.specs.Record.{State, depth}
-use Rattle.rules.specs.Clocks.{Op, keep, clear, none as noFate, Play}
+use Rattle.rules.specs.Clocks.{Op, keep, clear, none as no_fate, Play}
 use Rattle.rules.specs.Registers.{buffer_bits, registers, read_from}
 use Rattle.rules.specs.Writes.{load_kept, load_asked, buffer_of, tried, write_buffer, on_write}
 use Rattle.rules.specs.Play.{play}
@@ -22,7 +22,7 @@ use Rattle.rules.proofs.Played.{after_play, played_after}
 
 -- what is played: the core, and the values dropped or kept
 buffer_play : Bool → Core → Play
-buffer_play cleared c = record { core = c; op = cond cleared clear keep; moved = 0; fate = noFate }
+buffer_play cleared c = record { core = c; op = cond cleared clear keep; moved = 0; fate = no_fate }
 
 buffer_played : (s : State) (v : ℕ) → bit 7 v ≡ false → played s (write 0x0C v) ≡ buffer_play (bit 11 v) (buffer_of v s.board.core)
 unfolding play on_write write_buffer tried buffer_play

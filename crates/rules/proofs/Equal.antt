@@ -1,8 +1,7 @@
 -- Two things that equal a third are equal: so any two outcomes that a promise allows are. And what was told of a test, where the code
--- goes on by `!`.
+-- goes by it.
 use mathlib.Core.Path.{◌≡◌, sym, ap, ◌∙◌}
-use mathlib.Core.Bool.{Bool, true, false, not}
-use borrow.Author.Tests.{not-true, not-false}
+use mathlib.Core.Bool.{Bool, true, false}
 use Rattle.rules.specs.Told.{Told, Told-unique}
 use Rattle.rules.specs.ToldInNumbers.{ToldInNumbers, ToldInNumbers-unique}
 
@@ -19,8 +18,8 @@ told_in_numbers_unique A N numbers x r r' p q = determined p.told q.told
 pub told_in_numbers : {A N : Type 0} (numbers : A → N) {x r : A} → r ≡ x → ToldInNumbers numbers x r
 told_in_numbers numbers e = record { told = e; in_numbers = ap numbers e }
 
-pub told_false : {x r : Bool} → Told x r → not r ≡ true → x ≡ false
-told_false {x} {r} p h = sym p.told ∙ not-true r h
+pub told_false : {x r : Bool} → Told x r → r ≡ false → x ≡ false
+told_false {x} {r} p h = sym p.told ∙ h
 
-pub told_true : {x r : Bool} → Told x r → not r ≡ false → x ≡ true
-told_true {x} {r} p h = sym p.told ∙ not-false r h
+pub told_true : {x r : Bool} → Told x r → r ≡ true → x ≡ true
+told_true {x} {r} p h = sym p.told ∙ h

@@ -11,7 +11,7 @@ use Rattle.rules.specs.declared.Event.TheVariants.{Write, Signal as signal}
 use Rattle.file_rules.specs.declared.Item.TheVariants.{Got}
 use Rattle.file_rules.specs.File.{byte_at, word_at, quad_at, signal_of, event_at, item_at, event_of}
 use Rattle.file_rules.specs.Laws.{Known, Whole, event, later}
-use Rattle.file_rules.specs.Laws.{write as writeKnown, signal as signalKnown}
+use Rattle.file_rules.specs.Laws.{write as write_known, signal as signal_known}
 use Rattle.file_rules.proofs.Given.{item_exactly}
 
 -- a whole record of a known kind, from place 1 on, is the event that its bytes say
@@ -32,7 +32,7 @@ pub tick_stands : (s : List ℕ) (at : ℕ) → at ≢ 0 → at + 3 ≤ length s
     → item_at s at ≡ Got (signal Tick) (at + 3)
 tick_stands s at n l w k =
     let p : at + 2 + word_at s at ≡ at + 3 = omega (arith, w) in
-    got_at s at n (omega (arith, w)) (rw (w, k) (signalKnown 4 (omega arith) (omega arith)))
+    got_at s at n (omega (arith, w)) (rw (w, k) (signal_known 4 (omega arith) (omega arith)))
     ∙ (λ i. Got (tick_event s (at + 2) k i) (p i))
 
 pub load_stands : (s : List ℕ) (at : ℕ) → at ≢ 0 → at + 8 ≤ length s → word_at s at ≡ 6 → byte_at s (at + 2) ≡ 2 → byte_at s (at + 3) ≡ 24
@@ -42,5 +42,5 @@ load_stands s at n l w k o =
     let q : at + 2 + 1 ≡ at + 3 = omega arith in
     let r : at + 2 + 2 ≡ at + 4 = omega arith in
     let offset = ap (byte_at s) q ∙ o in
-    got_at s at n (omega (arith, w)) (rw (w, k) writeKnown)
+    got_at s at n (omega (arith, w)) (rw (w, k) write_known)
     ∙ (λ i. Got ((load_event s (at + 2) k ∙ (λ j. Write (offset j) (quad_at s (r j)))) i) (p i))

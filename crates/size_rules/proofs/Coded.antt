@@ -9,7 +9,7 @@ use borrow.Author.Tests.{eqb-true, eqb-false}
 use lib.Dec.{eqb}
 use lib.ListN.{length}
 use Rattle.laws.specs.Types.{Event, power_up, write, read, signal}
-use Rattle.demand3.specs.Demand3.{NeverLower, same, larger, AllNeverLower, none as noEvent, next as nextEvent}
+use Rattle.demand3.specs.Demand3.{NeverLower, same, larger, AllNeverLower, none as no_event, next as next_event}
 use Rattle.size_rules.specs.Coded.{with_code, sized, sized_all}
 use Rattle.size_rules.specs.Laws.{WithCode, put, kept, none, next, Sized-told}
 
@@ -67,5 +67,5 @@ never_lower j k l h (write o v) = go (eqb o 0x0C) refl
 
 pub all_never_lower : (j k : ℕ) → j ≤ k → k ≤ 15 → (es : List Event) → AllNeverLower (sized_all j es) (sized_all k es)
 unfolding sized_all
-all_never_lower j k l h [] = noEvent
-all_never_lower j k l h (e ∷ es) = nextEvent (never_lower j k l h e) (all_never_lower j k l h es)
+all_never_lower j k l h [] = no_event
+all_never_lower j k l h (e ∷ es) = next_event (never_lower j k l h e) (all_never_lower j k l h es)

@@ -5,8 +5,7 @@ use crate::smallest_size;
 
 // The smallest size of a session file over the sample memory. Answers the refusal number, 0 where a code is named; `code` is that code,
 // and 0 where it was refused.
-#[unsafe(no_mangle)]
-pub extern "C" fn nergutsai_smallest_size(file: &[u8], memory: &mut [u32], code: &mut u32) -> u32
+pub fn nergutsai_smallest_size(file: &[u8], memory: &mut [u32], code: &mut u32) -> u32
     ensures { SizeNamed file.now memory.old (record { refusal = result; code = code.new }) memory.new }
 {
     let a = smallest_size(file, memory);

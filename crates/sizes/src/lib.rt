@@ -14,6 +14,8 @@ mod exported;
 mod replay;
 mod sized;
 
+pub use exported::nergutsai_smallest_size;
+
 // The refusal number, 0 where there is none, and the size code that is named.
 #[derive(Clone, Copy)]
 pub struct Smallest {

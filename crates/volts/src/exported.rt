@@ -24,8 +24,7 @@ fn sixty(channels: [Extremes; 20]) -> [f32; 60]
 
 // The table of a session file, run over the sample memory: lowest, highest and last volts of channel 0, then of channel 1, and so on.
 // Answers the refusal number, 0 where there is none; refused, the sixty numbers are zero.
-#[unsafe(no_mangle)]
-pub extern "C" fn nergutsai_volts(file: &[u8], memory: &mut [u32], numbers: &mut [f32; 60]) -> u32
+pub fn nergutsai_volts(file: &[u8], memory: &mut [u32], numbers: &mut [f32; 60]) -> u32
     ensures { VoltsCalled file.now memory.old result memory.new numbers.new }
 {
     let t = volts(file, memory);

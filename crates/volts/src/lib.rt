@@ -17,6 +17,8 @@ mod exported;
 mod levels;
 mod running;
 
+pub use exported::nergutsai_volts;
+
 // The board and the table after an event.
 #[derive(Clone, Copy)]
 struct Observed {

@@ -1,8 +1,9 @@
 -- A selection of 1 to 7 picks its place in the list of conditions; 0 and those above 7 have none.
 use mathlib.Core.Path.{sym}
+use native.Mathlib.Omega.{arith}
 use Rattle.rules.specs.Interrupt.{condition, conditions}
 use Rattle.record.specs.Capped.{capped_board}
-use Rattle.latches.proofs.Conditions.{le_ne_suc, conditions_none}
+use Rattle.latches.proofs.Conditions.{conditions_none}
 use Rattle.latches.proofs.condition.Goals as goal
 
 pub returns-in-1 : goal.returns-in-1
@@ -35,10 +36,4 @@ returns-in-7 c = record { told = rw (c.in-7.is, c.closed-in-7.ensures.told) }
 
 pub returns-in_default : goal.returns-in_default
 unfolding condition
-returns-in_default c =
-    let b = c.args.b in
-    let r = c.in_default.rest in
-    record {
-      told = sym (conditions_none (capped_board b) _ (λ h.
-          le_ne_suc 7 _ (le_ne_suc 6 _ (le_ne_suc 5 _ (le_ne_suc 4 _ (le_ne_suc 3 _ (le_ne_suc 2 _ (le_ne_suc 1 _ h r.0.0.0.0.0.0.1) r.0.0.0.0.0.1) r.0.0.0.0.1) r.0.0.0.1) r.0.0.1) r.0.1) r.1));
-    }
+returns-in_default c = record { told = sym (conditions_none (capped_board c.args.b) c.args.b.core.control.selection (λ h. omega arith)) }

@@ -1,6 +1,6 @@
 use mathlib.Core.Path.{◌∙◌}
 use native.Mathlib.Omega.{arith}
-use borrow.Author.Tests.{eqb-false}
+use borrow.Author.Tests.{ne_eqb}
 use Rattle.rules.specs.Refusals.{first_of}
 use Rattle.rules.specs.Rates.{rate_refusal, rates}
 use Rattle.rules.proofs.Equal.{told_true, told_false}
@@ -28,11 +28,11 @@ whole_reference-requires c =
 
 pub sample_rate-requires : goal.sample_rate-requires
 sample_rate-requires c =
-    let divided = eqb-false c.args.b.core.clock.divisor 0 c.if-undivided.false in
-    (((sound_exactly _).0 (told_true c.is_sound.ensures c.if-not-is_sound.false)).nclk, omega (arith, divided))
+    (((sound_exactly _).0 (told_true c.is_sound.ensures c.if-not-is_sound.false)).nclk, omega arith)
 
 pub returns : goal.returns
 unfolding rates rate_refusal first_of
 returns c =
     let sure = told_true c.is_sound.ensures c.if-not-is_sound.false in
-    record { told = rw (sure, c.if-external.false, c.if-undivided.false, c.sample_rate.ensures, c.whole_reference.ensures) }
+    let divided = ne_eqb c.args.b.core.clock.divisor 0 c.if-undivided.false in
+    record { told = rw (sure, c.if-external.false, divided, c.sample_rate.ensures, c.whole_reference.ensures) }

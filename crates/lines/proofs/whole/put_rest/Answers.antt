@@ -14,14 +14,14 @@ put_field-u-requires c =
 pub put_field-v-requires : goal.put_field-v-requires
 put_field-v-requires c =
     let after_moved : c.put_field-t.result + 23 ≤ length c.put_field-t.new.out = room_after 11 23 c.requires c.put_field-t.ensures (field_long _) in
-    let after_fate : c.put_field-u.result + 12 ≤ length c.put_field-u.new.out = room_after 11 12 (after_moved) c.put_field-u.ensures (field_long _) in
+    let after_fate : c.put_field-u.result + 12 ≤ length c.put_field-u.new.out = room_after 11 12 after_moved c.put_field-u.ensures (field_long _) in
     omega (arith, after_fate)
 
 pub put_byte-requires : goal.put_byte-requires
 put_byte-requires c =
     let after_moved : c.put_field-t.result + 23 ≤ length c.put_field-t.new.out = room_after 11 23 c.requires c.put_field-t.ensures (field_long _) in
-    let after_fate : c.put_field-u.result + 12 ≤ length c.put_field-u.new.out = room_after 11 12 (after_moved) c.put_field-u.ensures (field_long _) in
-    let after_count : c.put_field-v.result + 1 ≤ length c.put_field-v.new.out = room_after 11 1 (after_fate) c.put_field-v.ensures (field_long _) in
+    let after_fate : c.put_field-u.result + 12 ≤ length c.put_field-u.new.out = room_after 11 12 after_moved c.put_field-u.ensures (field_long _) in
+    let after_count : c.put_field-v.result + 1 ≤ length c.put_field-v.new.out = room_after 11 1 after_fate c.put_field-v.ensures (field_long _) in
     omega (arith, after_count)
 
 pub returns : goal.returns

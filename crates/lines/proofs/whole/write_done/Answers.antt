@@ -15,7 +15,7 @@ put_bytes-s-requires c =
 pub put_rest-requires : goal.put_rest-requires
 put_rest-requires c =
     let after_number : c.put_long-p.result + 54 ≤ length c.put_long-p.new.out = room_after 10 54 c.requires c.put_long-p.ensures (decimal_long 9 _) in
-    omega (arith, room_after 11 43 (after_number) c.put_bytes-s.ensures (omega arith))
+    omega (arith, room_after 11 43 after_number c.put_bytes-s.ensures (omega arith))
 
 pub returns : goal.returns
 returns c =

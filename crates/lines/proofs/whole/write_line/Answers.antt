@@ -15,22 +15,22 @@ put_field-q-requires c =
 pub put_byte-r-requires : goal.put_byte-r-requires
 put_byte-r-requires c =
     let after_number : c.put_long-p.result + 54 ≤ length c.put_long-p.new.out = room_after 10 54 c.requires c.put_long-p.ensures (decimal_long 9 _) in
-    let after_refusal : c.put_field-q.result + 43 ≤ length c.put_field-q.new.out = room_after 11 43 (after_number) c.put_field-q.ensures (field_long _) in
+    let after_refusal : c.put_field-q.result + 43 ≤ length c.put_field-q.new.out = room_after 11 43 after_number c.put_field-q.ensures (field_long _) in
     omega (arith, after_refusal)
 
 pub put_register-s-requires : goal.put_register-s-requires
 put_register-s-requires c =
     let after_number : c.put_long-p.result + 54 ≤ length c.put_long-p.new.out = room_after 10 54 c.requires c.put_long-p.ensures (decimal_long 9 _) in
-    let after_refusal : c.put_field-q.result + 43 ≤ length c.put_field-q.new.out = room_after 11 43 (after_number) c.put_field-q.ensures (field_long _) in
-    let after_space : c.put_byte-r.result + 42 ≤ length c.put_byte-r.new.out = room_after 1 42 (after_refusal) c.put_byte-r.ensures (omega arith) in
+    let after_refusal : c.put_field-q.result + 43 ≤ length c.put_field-q.new.out = room_after 11 43 after_number c.put_field-q.ensures (field_long _) in
+    let after_space : c.put_byte-r.result + 42 ≤ length c.put_byte-r.new.out = room_after 1 42 after_refusal c.put_byte-r.ensures (omega arith) in
     omega (arith, after_space)
 
 pub put_rest-requires : goal.put_rest-requires
 put_rest-requires c =
     let after_number : c.put_long-p.result + 54 ≤ length c.put_long-p.new.out = room_after 10 54 c.requires c.put_long-p.ensures (decimal_long 9 _) in
-    let after_refusal : c.put_field-q.result + 43 ≤ length c.put_field-q.new.out = room_after 11 43 (after_number) c.put_field-q.ensures (field_long _) in
-    let after_space : c.put_byte-r.result + 42 ≤ length c.put_byte-r.new.out = room_after 1 42 (after_refusal) c.put_byte-r.ensures (omega arith) in
-    let after_register : c.put_register-s.result + 34 ≤ length c.put_register-s.new.out = room_after 8 34 (after_space) c.put_register-s.ensures (rw hex_long (omega arith)) in
+    let after_refusal : c.put_field-q.result + 43 ≤ length c.put_field-q.new.out = room_after 11 43 after_number c.put_field-q.ensures (field_long _) in
+    let after_space : c.put_byte-r.result + 42 ≤ length c.put_byte-r.new.out = room_after 1 42 after_refusal c.put_byte-r.ensures (omega arith) in
+    let after_register : c.put_register-s.result + 34 ≤ length c.put_register-s.new.out = room_after 8 34 after_space c.put_register-s.ensures (rw hex_long (omega arith)) in
     omega (arith, after_register)
 
 pub returns : goal.returns

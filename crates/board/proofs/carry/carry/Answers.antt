@@ -1,0 +1,53 @@
+-- Each act does what the rules make of it.
+use mathlib.Core.Path.{refl, ap, ◌∙◌}
+use Rattle.rules.specs.Record.{active_size}
+use Rattle.rules.specs.Place.{place}
+use Rattle.record.proofs.Depths.{capped_same}
+use Rattle.moves.proofs.Still.{only_does}
+use Rattle.moves.proofs.Clocking.{clocked_does}
+use Rattle.plans.specs.Parts.{carried, MovesOrStores}
+use Rattle.board.proofs.Losing.{load_does}
+use Rattle.board.proofs.carry.carry.Goals as goal
+
+pub serve-s-requires : goal.serve-s-requires
+serve-s-requires c = tt
+
+pub deal-x-requires : goal.deal-x-requires
+deal-x-requires c = tt
+
+pub clocked-requires : goal.clocked-requires
+clocked-requires c = tt
+
+pub active_size-requires : goal.active_size-requires
+active_size-requires c = tt
+
+pub load-s-requires : goal.load-s-requires
+load-s-requires c = tt
+
+pub lost_by-requires : goal.lost_by-requires
+lost_by-requires c = tt
+
+pub returns-in-Nothing : goal.returns-in-Nothing
+unfolding carried
+returns-in-Nothing c = rw c.in-Nothing.is (only_does _ _ _ _)
+
+pub returns-in-Empties : goal.returns-in-Empties
+unfolding carried place
+returns-in-Empties c = rw c.in-Empties.is (record { core = refl; moved = refl; fate = refl; ring = refl; memory = refl })
+
+pub returns-in-Clocks : goal.returns-in-Clocks
+unfolding carried MovesOrStores
+returns-in-Clocks c =
+    let a = c.args in
+    let q = c.requires (rw c.in-Clocks.is tt) in
+    let w = clocked_does a.p.core a.ring a.d a.p.core.outputs.levels a.memory.now q.0 q.1 _ _ _ _ c.serve-s.ensures c.deal-x.ensures in
+    rw c.in-Clocks.is (record { core = c.clocked.ensures ∙ w.core; moved = w.moved; fate = w.fate; ring = w.ring; memory = w.memory })
+
+pub returns-in-Loads : goal.returns-in-Loads
+unfolding carried MovesOrStores
+returns-in-Loads c =
+    let a = c.args in
+    let q = c.requires (rw c.in-Loads.is tt) in
+    let size = c.active_size.ensures.told ∙ ap active_size (capped_same _ q.2) in
+    rw (c.in-Loads.is, ← size)
+    (load_does a.p.core _ a.ring a.d _ a.memory.now _ _ _ q.0 (rw size q.3) c.load-s.ensures c.lost_by.ensures)

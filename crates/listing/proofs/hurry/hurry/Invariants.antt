@@ -1,0 +1,13 @@
+-- At each turn the events from the start of the loop on are passed (specs/Draft.antt).
+use Prim.Native.Nat.{◌-◌}
+use mathlib.Core.Path.{◌≡◌}
+use lib.ListN.{length}
+use Rattle.listing.specs.Draft.{board_now, draft, Walked}
+use Rattle.listing.proofs.hurry.hurry.Given as goal
+
+abbrev pub invariant-loop-levels : goal.invariant-loop-levels
+invariant-loop-levels l = (length l.memory ≡ length l.initial.memory) × (length l.out ≡ length l.initial.out)
+    × Walked l.s l.initial.c (draft l.b l.initial.memory l.initial.out l.place l.first) l.c (draft (board_now l.b l.core l.levels l.ring) l.memory l.out l.at l.number)
+
+abbrev pub decreases-loop-levels : goal.decreases-loop-levels
+decreases-loop-levels l = length l.s - l.c.place
