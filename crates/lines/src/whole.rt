@@ -98,7 +98,8 @@ pub(crate) fn write_tail(out: &mut [u8], at: usize, n: u32, p: u32, levels: [u16
     requires { at + 134 ≤ length out.old }
     ensures { Piece out.old at (tail n p levels) out.new result }
 {
-    if n == 0 {
+    let unrefused = n == 0;
+    if unrefused {
         return write_levels(out, at, levels);
     }
     let q = write_file(out, at, n, p);

@@ -4,11 +4,11 @@ use Rattle.file_rules.proofs.Joined.{then, renamed, piece_length, room_after}
 use Rattle.lines.proofs.LineParts.{tail_plain, tail_refused}
 use Rattle.lines.proofs.whole.write_tail.Goals as goal
 
-pub returns-then-n-eq0 : goal.returns-then-n-eq0
-returns-then-n-eq0 c = renamed (tail_plain _ _ _ c.if-n-eq0.true) c.write_levels.ensures
+pub returns-then-unrefused : goal.returns-then-unrefused
+returns-then-unrefused c = renamed (tail_plain _ _ _ c.if-unrefused.true) c.write_levels.ensures
 
-pub shape_of-out-then-n-eq0 : goal.shape_of-out-then-n-eq0
-shape_of-out-then-n-eq0 c = piece_length (returns-then-n-eq0 c)
+pub shape_of-out-then-unrefused : goal.shape_of-out-then-unrefused
+shape_of-out-then-unrefused c = piece_length (returns-then-unrefused c)
 
 pub write_levels-requires-2 : goal.write_levels-requires-2
 write_levels-requires-2 c =
@@ -16,7 +16,7 @@ write_levels-requires-2 c =
 
 pub returns : goal.returns
 returns c =
-    renamed (tail_refused _ _ _ c.if-n-eq0.false)
+    renamed (tail_refused _ _ _ c.if-unrefused.false)
     (then c.write_file-q.ensures c.write_levels-2.ensures)
 
 pub shape_of-out : goal.shape_of-out
