@@ -1,6 +1,6 @@
 -- The law of every loop over a session (specs/Way.antt), from what `Rest` of crate `file_rules` says of the session from a place on.
 use Prim.Native.Nat.{ℕ}
-use mathlib.Core.Path.{◌≡◌, refl, sym, ap, subst, ◌∙◌}
+use mathlib.Core.Path.{◌≡◌, sym, ap, subst}
 use mathlib.Core.Bool.{Bool, true, false, true≢false, false≢true}
 use mathlib.Core.List.{List}
 use native.Mathlib.Omega.{arith}
@@ -11,14 +11,14 @@ use Rattle.file_rules.specs.declared.End.{End}
 use Rattle.file_rules.specs.declared.End.TheVariants.{File}
 use Rattle.file_rules.specs.declared.Item.{Item}
 use Rattle.file_rules.specs.declared.Item.TheVariants.{Got, Over as over}
-use Rattle.file_rules.specs.File.{item_at, Session}
+use Rattle.file_rules.specs.File.{item_at}
 use Rattle.file_rules.proofs.Given.{item_grows}
 use Rattle.file_rules.proofs.Rests.{rest_start, rest_got, rest_over}
 use Rattle.run.specs.declared.Cursor.{Cursor}
 use Rattle.run.specs.declared.Ahead.{Ahead}
 use Rattle.run.specs.declared.Ahead.TheVariants.{Found, Over}
 use Rattle.run.specs.Run.{ahead_of, found}
-use Rattle.run.specs.Way.{Way, Way-start, Way-on, Way-over, Way-ends}
+use Rattle.run.specs.Way.{Way-start, Way-on, Way-over, Way-ends}
 
 -- ---- What stands at a cursor, as the file says it
 
