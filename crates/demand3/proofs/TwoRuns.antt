@@ -26,11 +26,12 @@ use Rattle.rules.specs.Size.{initialises, size_after}
 use Rattle.rules.specs.Interrupt.{conditions, condition, request_held, edge, request_after}
 use Rattle.rules.specs.Refusals.{refusal}
 use Rattle.rules.specs.Step.{Outcome, refused, played, board_before, done, step}
+use Rattle.rules.specs.Laws.Sizes.{◌⊑◌}
 use Rattle.rules.specs.Laws.Refusals.{Ordinary}
 use Rattle.rules.specs.Own.{own_number}
 use Rattle.demand3.specs.Demand3.{NeverLower, same, deeper, larger, NoQuarter, PowerUpAlike}
 use Rattle.rules.proofs.Own.{refusal_own}
-use Rattle.rules.proofs.Sizes.{◌⊑◌, full_mono}
+use Rattle.rules.proofs.Sizes.{full_later}
 use Rattle.laws.proofs.Places.{on_list}
 use Rattle.rules.proofs.Steps.{step_done, step_refused, refusal_answered, stored_length}
 use Rattle.laws.proofs.Kept.{Fit, fit_sound, stands_fit, Kept, kept}
@@ -72,7 +73,7 @@ played_same s s' e e' r l k =
     let n = s.board.ring.count in
     let full' = is_full s'.board.size s'.board.ring.count in
     play_same s.board.core (stored s) (is_full s.board.size n) full' e
-    (λ h. subst (λ (x : ℕ). is_full s'.board.size x ≡ false) (counts s s' r.lists) (full_mono s.board.size s'.board.size n r.size h)) k
+    (λ h. subst (λ (x : ℕ). is_full s'.board.size x ≡ false) (counts s s' r.lists) (full_later s.board.size s'.board.size n r.size h)) k
     ∙ ap₂ (λ (c : Core) (buf : List ℕ). play c buf full' e) r.core r.lists
     ∙ l.plays s'.board.core (stored s') full'
 

@@ -13,7 +13,7 @@ use Rattle.rules.specs.Record.{State, depth, stored}
 use Rattle.rules.specs.Parts.{with_burst, with_load, with_outputs}
 use Rattle.rules.specs.Clocks.{Op, leave, recirculate, Play, only, closed, burst_ready, targets, idle, moving, cursor_after, laid, carries_eof, burst_ends, burst_after, load_after, outgoing, moves, clock, tick_accepted, clock_accepted, on_tick, on_outside}
 use Rattle.rules.specs.Play.{on_signal, play}
-use Rattle.rules.specs.Place.{place}
+use Rattle.rules.specs.Place.{place, place_of}
 use Rattle.rules.specs.Size.{size_after}
 use Rattle.rules.specs.Refusals.{refusal}
 use Rattle.rules.specs.Step.{Outcome, played, board_before, done, step}
@@ -24,7 +24,7 @@ use Rattle.laws.specs.Moved.{Clocked, group_size, ReadyToMove}
 use Rattle.rules.proofs.Choice.{cases, cond_true, cond_false, or_left, or_right, or_neither, neither_or}
 use Rattle.laws.proofs.Places.{on_list}
 use Rattle.rules.proofs.States.{closed_exactly}
-use Rattle.rules.proofs.Steps.{place_of, step_done}
+use Rattle.rules.proofs.Steps.{step_done}
 use Rattle.laws.proofs.Kept.{Kept, kept, stands_fit}
 use Rattle.rules.proofs.Refusals.{refusal_stands}
 use Rattle.laws.proofs.Targets.{targets_group, group_pos}

@@ -11,13 +11,14 @@ use Rattle.laws.specs.Types.{Size, Event, power_up, write, read, signal}
 use Rattle.rules.specs.Bits.{bit}
 use Rattle.rules.specs.Record.{State, depth, stored, sound_ring}
 use Rattle.rules.specs.Flags.{is_full}
+use Rattle.rules.specs.Place.{place_of}
 use Rattle.rules.specs.Size.{code_of, size_after}
 use Rattle.rules.specs.Step.{played, placed, board_before, done}
 use Rattle.rules.specs.Laws.Soundness.{Stands}
 use Rattle.rules.specs.Laws.Refusals.{Ordinary}
 use Rattle.rules.proofs.Choice.{either}
 use Rattle.rules.proofs.Sizes.{depth_pos, full_room}
-use Rattle.rules.proofs.Steps.{stored_length, place_of}
+use Rattle.rules.proofs.Steps.{stored_length}
 use Rattle.rules.proofs.Soundness.{SoundCore, SoundRing, ring_from, sound_parts}
 use Rattle.laws.proofs.Places.{Good, Same, Placed, on_list, placed_op}
 use Rattle.laws.proofs.Allowed.{play_allowed}

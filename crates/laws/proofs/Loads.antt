@@ -17,7 +17,7 @@ use Rattle.rules.specs.Clocks.{Op, keep, store, Fate, none, was_stored, lost_to_
 use Rattle.rules.specs.Flags.{is_full}
 use Rattle.rules.specs.Writes.{write_control, write_mask, write_rate, write_adjust, buffer_of, tried, write_buffer, write_data, on_write}
 use Rattle.rules.specs.Play.{calibration_ends, settles, on_signal, play}
-use Rattle.rules.specs.Place.{Place, place_store, place}
+use Rattle.rules.specs.Place.{Place, place_store, place, place_of}
 use Rattle.rules.specs.Size.{code_of, size_after}
 use Rattle.rules.specs.Refusals.{refusal}
 use Rattle.rules.specs.Step.{Outcome, refused, played, placed, board_before, done, step}
@@ -30,7 +30,7 @@ use Rattle.laws.proofs.Places.{on_list}
 use Rattle.rules.proofs.Sizes.{depth_pos}
 use Rattle.laws.proofs.Offsets.{write_cases}
 use Rattle.rules.proofs.States.{closed_exactly, closed_not}
-use Rattle.rules.proofs.Steps.{place_of, step_done, step_refused, step_cases, stored_length}
+use Rattle.rules.proofs.Steps.{step_done, step_refused, step_cases, stored_length}
 use Rattle.laws.proofs.Kept.{Kept, kept, stands_fit}
 use Rattle.rules.proofs.Refusals.{refusal_stands}
 

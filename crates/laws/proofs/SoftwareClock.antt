@@ -10,7 +10,7 @@ use Rattle.rules.specs.Record.{State, depth, stored}
 use Rattle.rules.specs.Clocks.{clear, none, fate_number, Play, only, moving, moves, clock, clock_accepted, on_outside}
 use Rattle.rules.specs.Writes.{load_kept, load_asked, buffer_of, tried, write_buffer, on_write}
 use Rattle.rules.specs.Play.{on_signal, play}
-use Rattle.rules.specs.Place.{Place, place}
+use Rattle.rules.specs.Place.{Place, place, place_of}
 use Rattle.rules.specs.Size.{code_of, size_after}
 use Rattle.rules.specs.Refusals.{rows, refusal}
 use Rattle.rules.specs.Step.{reading, played, board_before, done}
@@ -20,7 +20,7 @@ use Rattle.laws.specs.Moved.{SameButRequest, Software-clock}
 use Rattle.rules.proofs.Choice.{either}
 use Rattle.laws.proofs.Places.{on_list}
 use Rattle.laws.proofs.Allowed.{moving_le}
-use Rattle.rules.proofs.Steps.{place_of, step_done}
+use Rattle.rules.proofs.Steps.{step_done}
 use Rattle.laws.proofs.Kept.{kept, stands_fit}
 use Rattle.laws.proofs.AddedBits.{bit_added, bit_others}
 use Rattle.laws.proofs.Lasting.{done_stands}
