@@ -32,9 +32,10 @@ use Rattle.rules.specs.Own.{own_number}
 use Rattle.demand3.specs.Demand3.{NeverLower, same, deeper, larger, NoQuarter, PowerUpAlike}
 use Rattle.rules.proofs.Own.{refusal_own}
 use Rattle.rules.proofs.Sizes.{full_later}
-use Rattle.laws.proofs.Places.{on_list}
+use Rattle.laws.specs.Lists.{on_list}
 use Rattle.rules.proofs.Steps.{step_done, step_refused, refusal_answered, stored_length}
-use Rattle.laws.proofs.Kept.{Fit, fit_sound, stands_fit, Kept, kept}
+use Rattle.laws.specs.Kept.{Fit, Kept}
+use Rattle.laws.proofs.Kept.{fit_sound, stands_fit, event_kept}
 use Rattle.laws.proofs.Lasting.{up_stands}
 use Rattle.demand3.proofs.FullOnly.{play_same}
 use Rattle.demand3.proofs.Lower.{OneToRules, one_to_rules}
@@ -156,8 +157,8 @@ done_together : (s s' : State) (e e' : Event) → Ordinary e → Ordinary e' →
 unfolding done board_before
 done_together s s' e e' o o' l r f f' k =
     let p : played s e ≡ played s' e' = played_same s s' e e' r l (fate_two (played s e).fate k) in
-    let t : Kept s e = kept s e o f in
-    let t' : Kept s' e' = kept s' e' o' f' in
+    let t : Kept s e = event_kept s e o f in
+    let t' : Kept s' e' = event_kept s' e' o' f' in
     let ls = t.lists ∙ ap₂ (λ (q : Play) (buf : List ℕ). on_list q.op buf) p r.lists ∙ sym t'.lists in
     record {
       refusal = refl;

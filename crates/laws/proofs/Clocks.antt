@@ -22,10 +22,11 @@ use Rattle.rules.specs.Laws.Refused.{TickAccepted, ClockAccepted}
 use Rattle.rules.specs.Laws.Closed.{Closed}
 use Rattle.laws.specs.Moved.{Clocked, group_size, ReadyToMove}
 use Rattle.rules.proofs.Choice.{cases, cond_true, cond_false, or_left, or_right, or_neither, neither_or}
-use Rattle.laws.proofs.Places.{on_list}
+use Rattle.laws.specs.Lists.{on_list}
 use Rattle.rules.proofs.States.{closed_exactly}
 use Rattle.rules.proofs.Steps.{step_done}
-use Rattle.laws.proofs.Kept.{Kept, kept, stands_fit}
+use Rattle.laws.specs.Kept.{Kept}
+use Rattle.laws.proofs.Kept.{event_kept, stands_fit}
 use Rattle.rules.proofs.Refusals.{refusal_stands}
 use Rattle.laws.proofs.Targets.{targets_group, group_pos}
 
@@ -148,5 +149,5 @@ pub clock_ran : (s : State) (x : Signal) → refusal s (signal x) ≡ 0 → Cloc
 clock_ran s x z a h =
     let st = refusal_stands s (signal x) tt z in
     rw (step_done s (signal x) z)
-    (moves_ran s x (group_size s.board) (group_pos s.board st.sound h.mask) (kept s (signal x) tt (stands_fit s st))
+    (moves_ran s x (group_size s.board) (group_pos s.board st.sound h.mask) (event_kept s (signal x) tt (stands_fit s st))
     (ready_plays s st.sound x a h))
