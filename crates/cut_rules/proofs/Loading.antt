@@ -29,7 +29,7 @@ use Rattle.rules.proofs.Sizes.{size_lesser}
 use Rattle.rules.proofs.Masks.{below_bits}
 use Rattle.rules.proofs.Refusals.{power_up_accepted}
 use Rattle.rules.proofs.Initial.{power_up_fresh}
-use Rattle.laws.proofs.Places.{on_list}
+use Rattle.laws.specs.Lists.{on_list}
 use Rattle.laws.proofs.Lasting.{up_stands, stands_kept}
 use Rattle.laws.proofs.Loads.{load_loaded}
 use Rattle.cut_rules.specs.Cut.{Cut, numbers, eof_on_last, events}

@@ -22,8 +22,8 @@ use Rattle.rules.specs.Laws.Refusals.{Ordinary, Offset, written, heard, a_tick}
 use Rattle.rules.specs.Session.{outcomes, after}
 use Rattle.rules.proofs.Steps.{step_done, refusal_answered}
 use Rattle.rules.proofs.Refusals.{refusal_exactly}
-use Rattle.laws.proofs.Places.{on_list}
-use Rattle.laws.proofs.Kept.{kept, stands_fit}
+use Rattle.laws.specs.Lists.{on_list}
+use Rattle.laws.proofs.Kept.{event_kept, stands_fit}
 use Rattle.laws.proofs.Lasting.{stands_kept}
 use Rattle.laws.proofs.Loads.{fate_none}
 use Rattle.cut_rules.specs.Plays.{Fine, none, next, many_ticks}
@@ -39,7 +39,7 @@ pub record Done (s : State) (e : Event) (p : Play) : Type 0 where
 pub event_done : (s : State) (e : Event) (p : Play) → Stands s → Ordinary e → refusal s e ≡ 0 → played s e ≡ p → Done s e p
 unfolding done board_before
 event_done s e p st o z h =
-    let k = kept s e o (stands_fit s st) in
+    let k = event_kept s e o (stands_fit s st) in
     record {
       refusal = rw (step_done s e z) refl;
       fate = rw (step_done s e z) (ap (λ (x : Play). fate_number x.fate) h);

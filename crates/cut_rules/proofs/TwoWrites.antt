@@ -28,7 +28,7 @@ use Rattle.rules.specs.Session.{outcomes, after}
 use Rattle.rules.specs.Laws.Soundness.{Stands}
 use Rattle.rules.specs.Laws.Refusals.{Offset}
 use Rattle.rules.proofs.Choice.{either, cond_false}
-use Rattle.laws.proofs.Places.{on_list}
+use Rattle.laws.specs.Lists.{on_list}
 use Rattle.cut_rules.specs.Plays.{Fine, none, next, Playable, EitherOrder, control_first, buffer_first}
 use Rattle.cut_rules.proofs.Passing.{Done, no_loss_lem, BoardWith, board_after, write_done}
 

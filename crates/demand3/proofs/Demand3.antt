@@ -1,6 +1,7 @@
 -- Demand 3: a session that plays without loss plays the same on any larger buffer.
 use Prim.Native.Nat.{ℕ, zero, suc}
 use mathlib.Core.Path.{◌≡◌, refl, sym, ap, ◌∙◌}
+use mathlib.Core.Logic.{◌≢◌}
 use mathlib.Core.Bool.{false≢true}
 use mathlib.Core.List.{List, [], ◌∷◌}
 use native.Mathlib.Nat.{le_refl}
@@ -14,30 +15,53 @@ use Rattle.rules.specs.Record.{State, values, stored, sound_core, unpowered, sta
 use Rattle.rules.specs.Clocks.{closed}
 use Rattle.rules.specs.Step.{Outcome, step}
 use Rattle.rules.specs.Session.{outcomes, after}
+use Rattle.rules.specs.Laws.Runs.{stepping}
+use Rattle.basics.specs.TwoRuns.{Along, end, on, Keeps, Tells}
 use Rattle.demand3.specs.Demand3.{NeverLower, same, deeper, larger, AllNeverLower, none, next, PowerUpAccepted, PowerUpsAccepted, NothingLost, NoQuarters, Alike, SameAnswers, Agree, Demand3, Demand3-from-any, Demand3-as-ordered, PowerUpAlike, PowerUpsAlike, Demand3-alike}
-use Rattle.demand3.proofs.TwoRuns.{Related, Together, step_together, up_request, power_up_together}
+use Rattle.demand3.specs.TwoBoards.{Related, Together}
+use Rattle.basics.proofs.TwoRuns.{runs_together}
+use Rattle.demand3.proofs.TwoRuns.{event_together, up_request, power_up_together}
 
 -- ---- Two runs from related states
 
--- what is shown of them: the order's clauses, but for the request, and the relation to go on with
+-- what is asked of two events
+record Asked (s : State) (e : Event) (s' : State) (e' : Event) : Type 0 where
+  pub lower : NeverLower e e'
+  pub alike : PowerUpAlike e (step s e) (step s' e')
+  pub lossless : (step s e).answer.fate ≢ 2
+
+asked : (s s' : State) {es es' : List Event} → AllNeverLower es es' → PowerUpsAlike s es s' es' → NothingLost s es
+    → Along stepping stepping Asked s es s' es'
+unfolding PowerUpsAlike NothingLost
+asked s s' none a l = end
+asked s s' (next {e} {e'} w ws) a l =
+    on (record { lower = w; alike = a.0; lossless = l.0 }) (asked (step s e).state (step s' e').state ws a.1 l.1)
+
+keeps : Keeps stepping stepping Related Asked Together
+keeps =
+    record {
+      event = λ s e s' e' r p. event_together s s' e e' p.lower r p.alike p.lossless;
+      states = λ s s' o o' t. t.related;
+    }
+
+-- what is told of the runs: the order's clauses, but for the request, which asks that it was equal at the start
 record Both (s : State) (es : List Event) (s' : State) (es' : List Event) : Type 0 where
   pub lossless : NothingLost s' es'
   pub related : Related (after s es) (after s' es')
   pub answers : SameAnswers (outcomes s es) (outcomes s' es')
   pub request : NoQuarters s es → s.board.request ≡ s'.board.request → (after s es).board.request ≡ (after s' es').board.request
 
-runs : (s s' : State) {es es' : List Event} → AllNeverLower es es' → Related s s'
-    → PowerUpsAlike s es s' es' → NothingLost s es → Both s es s' es'
-unfolding outcomes after PowerUpsAlike NothingLost NoQuarters
-runs s s' none r a l = record { lossless = tt; related = r; answers = none; request = λ q h. h }
-runs s s' (next {e} {e'} {es} {es'} w ws) r a l =
-    let t : Together s s' (step s e) (step s' e') = step_together s s' w r a.0 (λ h. l.0 (omega (arith, h))) in
-    let u : Both (step s e).state es (step s' e').state es' = runs (step s e).state (step s' e').state ws t.related a.1 l.1 in
+tells : Tells stepping stepping Related Asked Together Both
+unfolding outcomes after NothingLost NoQuarters
+tells =
     record {
-      lossless = (λ h. l.0 (omega (arith, h, t.fate)), u.lossless);
-      related = u.related;
-      answers = next t.refusal t.moved t.fate u.answers;
-      request = λ q h. u.request q.1 (t.request q.0 h);
+      none = λ s s' r. record { lossless = tt; related = r; answers = none; request = λ q h. h };
+      first = λ s e es s' e' es' p t u. record {
+        lossless = (λ h. p.lossless (omega (arith, h, t.fate)), u.lossless);
+        related = u.related;
+        answers = next t.refusal t.moved t.fate u.answers;
+        request = λ q h. u.request q.1 (t.request q.0 h);
+      };
     }
 
 related_alike : (s s' : State) → Related s s' → Alike s s'
@@ -54,7 +78,7 @@ related_alike s s' r =
 agree : (s s' : State) {es es' : List Event} → AllNeverLower es es' → Related s s' → s.board.request ≡ s'.board.request
     → PowerUpsAlike s es s' es' → NothingLost s es → Agree s es s' es'
 agree s s' w r q a l =
-    let b = runs s s' w r a l in
+    let b = (runs_together _ _ _ _ _ _ stepping stepping Related Asked Together Both keeps tells s _ s' _ r (asked s s' w a l)).0 in
     record {
       lossless = b.lossless;
       alike = related_alike _ _ b.related;
@@ -121,7 +145,7 @@ demand3 m m' es es' w n a a' l = demand3_alike m m' es es' w n (all_accepted_lem
 
 pub demand3_from_any : Demand3-from-any
 demand3_from_any s s' x x' es es' u a a' w n b b' l =
-    let t = power_up_together s s' u a a' in
+    let t = power_up_together s s' x x' u a a' in
     agree _ _ (lower_take n w) t.related (up_request s x a ∙ sym (up_request s' x' a')) (all_accepted_lem _ _ (lower_take n w) b b') l
 
 pub demand3_as_ordered : Demand3-as-ordered

@@ -14,9 +14,9 @@ use Rattle.rules.specs.Writes.{load_kept, load_asked, buffer_of, write_buffer, o
 use Rattle.rules.specs.Play.{play}
 use Rattle.rules.specs.Size.{initialises, code_of, size_after}
 use Rattle.rules.specs.Interrupt.{request_held}
+use Rattle.rules.specs.Laws.Sizes.{◌⊑◌}
 use Rattle.demand3.specs.Demand3.{NeverLower, same, deeper, larger}
 use Rattle.rules.proofs.Masks.{bit_shift}
-use Rattle.rules.proofs.Sizes.{◌⊑◌}
 
 -- a bit from 4 up is a bit of v over 16
 high_bit : (v v' : ℕ) → v / 16 ≡ v' / 16 → (k : ℕ) → bit (4 + k) v ≡ bit (4 + k) v'

@@ -1,6 +1,4 @@
--- One event on two boards that differ in their room alone.
---   Related s s'     their cores and stored values are equal, and the second's codes are never lower
---   Together s o     what one event does to both
+-- One event on two boards that differ in their room alone (specs/TwoBoards.antt).
 use Prim.Native.Nat.{ℕ, zero, suc, ◌≤◌}
 use mathlib.Core.Path.{◌≡◌, refl, sym, ap, ap₂, ◌∙◌, subst}
 use mathlib.Core.Logic.{◌≢◌}
@@ -25,15 +23,17 @@ use Rattle.rules.specs.Place.{place}
 use Rattle.rules.specs.Size.{initialises, size_after}
 use Rattle.rules.specs.Interrupt.{conditions, condition, request_held, edge, request_after}
 use Rattle.rules.specs.Refusals.{refusal}
-use Rattle.rules.specs.Step.{Outcome, refused, played, board_before, done, step}
+use Rattle.rules.specs.Step.{refused, played, board_before, done, step}
 use Rattle.rules.specs.Laws.Refusals.{Ordinary}
 use Rattle.rules.specs.Own.{own_number}
-use Rattle.demand3.specs.Demand3.{NeverLower, same, deeper, larger, NoQuarter, PowerUpAlike}
+use Rattle.demand3.specs.Demand3.{NeverLower, same, deeper, larger, PowerUpAlike}
+use Rattle.demand3.specs.TwoBoards.{Related, Together, Event-together, Power-up-together}
 use Rattle.rules.proofs.Own.{refusal_own}
-use Rattle.rules.proofs.Sizes.{◌⊑◌, full_mono}
-use Rattle.laws.proofs.Places.{on_list}
+use Rattle.rules.proofs.Sizes.{full_later}
+use Rattle.laws.specs.Lists.{on_list}
 use Rattle.rules.proofs.Steps.{step_done, step_refused, refusal_answered, stored_length}
-use Rattle.laws.proofs.Kept.{Fit, fit_sound, stands_fit, Kept, kept}
+use Rattle.laws.specs.Kept.{Fit, Kept}
+use Rattle.laws.proofs.Kept.{fit_sound, stands_fit, event_kept}
 use Rattle.laws.proofs.Lasting.{up_stands}
 use Rattle.demand3.proofs.FullOnly.{play_same}
 use Rattle.demand3.proofs.Lower.{OneToRules, one_to_rules}
@@ -54,14 +54,7 @@ own_lower (same e) c = refl
 own_lower (deeper x d h) c = refl
 own_lower (larger v v' h l) c = refl
 
--- ---- The relation
-
-pub record Related (s s' : State) : Type 0 where
-  pub core : s.board.core ≡ s'.board.core
-  pub size : s.board.size ⊑ s'.board.size
-  pub lists : stored s ≡ stored s'
-  pub fit : sound_core s.board.core ≡ true → Fit s
-  pub fit' : sound_core s'.board.core ≡ true → Fit s'
+-- ---- Related boards
 
 counts : (s s' : State) → stored s ≡ stored s' → s.board.ring.count ≡ s'.board.ring.count
 counts s s' h = sym (stored_length s) ∙ ap length h ∙ stored_length s'
@@ -72,7 +65,7 @@ played_same s s' e e' r l k =
     let n = s.board.ring.count in
     let full' = is_full s'.board.size s'.board.ring.count in
     play_same s.board.core (stored s) (is_full s.board.size n) full' e
-    (λ h. subst (λ (x : ℕ). is_full s'.board.size x ≡ false) (counts s s' r.lists) (full_mono s.board.size s'.board.size n r.size h)) k
+    (λ h. subst (λ (x : ℕ). is_full s'.board.size x ≡ false) (counts s s' r.lists) (full_later s.board.size s'.board.size n r.size h)) k
     ∙ ap₂ (λ (c : Core) (buf : List ℕ). play c buf full' e) r.core r.lists
     ∙ l.plays s'.board.core (stored s') full'
 
@@ -129,13 +122,6 @@ request_same e e' b b' a a' l bc bn ac an q low high = go (eqb (selection b) (se
 
 -- ---- What one event does to both
 
-pub record Together (s s' : State) (o o' : Outcome) : Type 0 where
-  pub refusal : o.answer.refusal ≡ o'.answer.refusal
-  pub moved : o.answer.moved ≡ o'.answer.moved
-  pub fate : o.answer.fate ≡ o'.answer.fate
-  pub related : Related o.state o'.state
-  pub request : NoQuarter s → s.board.request ≡ s'.board.request → o.state.board.request ≡ o'.state.board.request
-
 refused_together : (n n' : ℕ) (s s' : State) → n ≡ n' → Related s s' → Together s s' (refused n s) (refused n' s')
 unfolding refused
 refused_together n n' s s' e r =
@@ -155,8 +141,8 @@ done_together : (s s' : State) (e e' : Event) → Ordinary e → Ordinary e' →
 unfolding done board_before
 done_together s s' e e' o o' l r f f' k =
     let p : played s e ≡ played s' e' = played_same s s' e e' r l (fate_two (played s e).fate k) in
-    let t : Kept s e = kept s e o f in
-    let t' : Kept s' e' = kept s' e' o' f' in
+    let t : Kept s e = event_kept s e o f in
+    let t' : Kept s' e' = event_kept s' e' o' f' in
     let ls = t.lists ∙ ap₂ (λ (q : Play) (buf : List ℕ). on_list q.op buf) p r.lists ∙ sym t'.lists in
     record {
       refusal = refl;
@@ -234,12 +220,9 @@ pub up_request : (s : State) (x : Settings) → (step s (power_up x)).answer.ref
 unfolding done board_before request_after initialises
 up_request s x a = rw (step_done s (power_up x) (sym (refusal_answered s (power_up x)) ∙ a))
 
--- Two accepted power-ups relate any two states.
-pub power_up_together : (s s' : State) {x x' : Settings} → NeverLower (power_up x) (power_up x')
-    → (step s (power_up x)).answer.refusal ≡ 0 → (step s' (power_up x')).answer.refusal ≡ 0
-    → Together s s' (step s (power_up x)) (step s' (power_up x'))
-power_up_together s s' {x} (same _) a a' = up_together s s' x x (one_to_rules (same (power_up x))) a a' (le_refl x.fitted)
-power_up_together s s' (deeper x d h) a a' = up_together s s' x _ (one_to_rules (deeper x d h)) a a' h
+pub power_up_together : Power-up-together
+power_up_together s s' x x' (same _) a a' = up_together s s' x x (one_to_rules (same (power_up x))) a a' (le_refl x.fitted)
+power_up_together s s' _ _ (deeper x d h) a a' = up_together s s' x _ (one_to_rules (deeper x d h)) a a' h
 
 -- and so do two that are answered alike, where the states before them were related: a refused one changes neither
 up_alike : (s s' : State) {x x' : Settings} → NeverLower (power_up x) (power_up x') → Related s s'
@@ -250,17 +233,16 @@ up_alike s s' {x} {x'} w r q = go (eqb (refusal s (power_up x)) 0) refl
     go : (z : Bool) → eqb (refusal s (power_up x)) 0 ≡ z → Together s s' (step s (power_up x)) (step s' (power_up x'))
     go true z =
         let h = refusal_answered s (power_up x) ∙ eqb-true (refusal s (power_up x)) 0 z in
-        power_up_together s s' w h (sym q ∙ h)
+        power_up_together s s' x x' w h (sym q ∙ h)
     go false z =
         both_refused s s' (power_up x) (power_up x') r (sym (refusal_answered s (power_up x)) ∙ q ∙ refusal_answered s' (power_up x')) z
 
 -- ---- Any event
 
-pub step_together : (s s' : State) {e e' : Event} → NeverLower e e' → Related s s'
-    → PowerUpAlike e (step s e) (step s' e') → (step s e).answer.fate ≢ 2 → Together s s' (step s e) (step s' e')
-step_together s s' (deeper x d h) r a n = up_alike s s' (deeper x d h) r a
-step_together s s' (larger v v' h l) r a n = ordinary_together s s' (larger v v' h l) tt tt r n
-step_together s s' (same e) r a n = each e a n
+pub event_together : Event-together
+event_together s s' _ _ (deeper x d h) r a n = up_alike s s' (deeper x d h) r a
+event_together s s' _ _ (larger v v' h l) r a n = ordinary_together s s' (larger v v' h l) tt tt r n
+event_together s s' _ _ (same e) r a n = each e a n
   where
     each : (e : Event) → PowerUpAlike e (step s e) (step s' e) → (step s e).answer.fate ≢ 2 → Together s s' (step s e) (step s' e)
     each (power_up x) a n = up_alike s s' (same (power_up x)) r a

@@ -11,7 +11,8 @@ use lib.Seq.{get_or-set_same, get_or-set_other, get_or-drop}
 use Rattle.rules.specs.Record.{value_span}
 use Rattle.rules.specs.Place.{Place, place_again, times}
 use Rattle.rules.proofs.Steps.{length_values}
-use Rattle.laws.proofs.Places.{Good, listed, mod_here, mod_away, mod_shift, get_d_values, placed_again}
+use Rattle.laws.specs.Lists.{Good, listed}
+use Rattle.laws.proofs.Places.{mod_here, mod_away, mod_shift, get_d_values, placed_again}
 
 abbrev pub onward : ℕ → Place → ℕ → ℕ
 onward d p i = (p.ring.first + p.ring.count + i) % d

@@ -15,7 +15,7 @@ use Rattle.rules.specs.Clocks.{Play, closed, targets, idle, moving, outgoing, mo
 use Rattle.rules.specs.Writes.{write_control, write_mask, write_rate, write_adjust, buffer_of, tried, write_buffer, write_data, on_write}
 use Rattle.rules.specs.Play.{calibration_ends, settles, on_signal, play}
 use Rattle.rules.proofs.Choice.{cases, either, or_neither}
-use Rattle.laws.proofs.Places.{Allowed}
+use Rattle.laws.specs.Lists.{Allowed}
 use Rattle.laws.proofs.Offsets.{write_cases}
 
 pub moving_le : (c : Core) (buf : List ℕ) → moving c buf ≤ length buf

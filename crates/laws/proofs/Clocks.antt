@@ -13,7 +13,7 @@ use Rattle.rules.specs.Record.{State, depth, stored}
 use Rattle.rules.specs.Parts.{with_burst, with_load, with_outputs}
 use Rattle.rules.specs.Clocks.{Op, leave, recirculate, Play, only, closed, burst_ready, targets, idle, moving, cursor_after, laid, carries_eof, burst_ends, burst_after, load_after, outgoing, moves, clock, tick_accepted, clock_accepted, on_tick, on_outside}
 use Rattle.rules.specs.Play.{on_signal, play}
-use Rattle.rules.specs.Place.{place}
+use Rattle.rules.specs.Place.{place, place_of}
 use Rattle.rules.specs.Size.{size_after}
 use Rattle.rules.specs.Refusals.{refusal}
 use Rattle.rules.specs.Step.{Outcome, played, board_before, done, step}
@@ -22,10 +22,11 @@ use Rattle.rules.specs.Laws.Refused.{TickAccepted, ClockAccepted}
 use Rattle.rules.specs.Laws.Closed.{Closed}
 use Rattle.laws.specs.Moved.{Clocked, group_size, ReadyToMove}
 use Rattle.rules.proofs.Choice.{cases, cond_true, cond_false, or_left, or_right, or_neither, neither_or}
-use Rattle.laws.proofs.Places.{on_list}
+use Rattle.laws.specs.Lists.{on_list}
 use Rattle.rules.proofs.States.{closed_exactly}
-use Rattle.rules.proofs.Steps.{place_of, step_done}
-use Rattle.laws.proofs.Kept.{Kept, kept, stands_fit}
+use Rattle.rules.proofs.Steps.{step_done}
+use Rattle.laws.specs.Kept.{Kept}
+use Rattle.laws.proofs.Kept.{event_kept, stands_fit}
 use Rattle.rules.proofs.Refusals.{refusal_stands}
 use Rattle.laws.proofs.Targets.{targets_group, group_pos}
 
@@ -148,5 +149,5 @@ pub clock_ran : (s : State) (x : Signal) → refusal s (signal x) ≡ 0 → Cloc
 clock_ran s x z a h =
     let st = refusal_stands s (signal x) tt z in
     rw (step_done s (signal x) z)
-    (moves_ran s x (group_size s.board) (group_pos s.board st.sound h.mask) (kept s (signal x) tt (stands_fit s st))
+    (moves_ran s x (group_size s.board) (group_pos s.board st.sound h.mask) (event_kept s (signal x) tt (stands_fit s st))
     (ready_plays s st.sound x a h))

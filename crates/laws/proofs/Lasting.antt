@@ -1,4 +1,4 @@
--- Every event keeps soundness, and an accepted power-up gives it.
+-- Every event keeps soundness, and an accepted power-up gives it; so the states of a run are not powered, or sound.
 use Prim.Native.Nat.{ℕ, zero, suc, ◌+◌, ◌-◌, ◌≤◌, ◌<◌}
 use mathlib.Core.Path.{◌≡◌, refl, sym, ◌∙◌}
 use mathlib.Core.Bool.{Bool, true, false, not, ◌&&◌, cond, false≢true}
@@ -8,7 +8,7 @@ use native.Mathlib.Omega.{arith}
 use lib.Pow.{pow_pos}
 use Rattle.laws.specs.Types.{Settings, Options, Control, Mode, Calibration, Clock, Burst, Load, Lost, Outputs, Core, Event, power_up, write, read, signal, Signal, tick, outside, trigger, passed, failed, settled}
 use Rattle.rules.specs.Bits.{bit, active, active_from, head_or}
-use Rattle.rules.specs.Record.{State, channels, stored}
+use Rattle.rules.specs.Record.{State, channels, sound, stored, unpowered}
 use Rattle.rules.specs.Parts.{no_burst, no_load, remade, with_clock, with_lost}
 use Rattle.rules.specs.Clocks.{Play, closed, next_channel, moving, cursor_after, burst_after, load_after, moves, clock, tick_accepted, clock_accepted, trigger_accepted, on_tick, on_outside, on_trigger}
 use Rattle.rules.specs.Writes.{initial, burst_of, cursor_of, calibration_of, write_control, write_mask, write_rate, write_adjust, load_kept, load_asked, buffer_of, tried, write_buffer, write_data, on_write}
@@ -18,15 +18,15 @@ use Rattle.rules.specs.Size.{size_after}
 use Rattle.rules.specs.Refusals.{refusal}
 use Rattle.rules.specs.Step.{refused, board_before, done}
 use Rattle.rules.specs.Laws.Soundness.{Stands}
-use Rattle.laws.specs.Lasting.{Stands-kept, Stands-given}
+use Rattle.laws.specs.Lasting.{Stands-kept, Stands-given, InRun, InRun-start, InRun-kept}
 use Rattle.rules.specs.Laws.Refusals.{Ordinary}
 use Rattle.rules.proofs.Choice.{cases, either, and_both}
 use Rattle.rules.proofs.Sizes.{depth_pos}
 use Rattle.laws.proofs.Offsets.{write_cases}
 use Rattle.rules.proofs.Steps.{step_done, step_cases, refusal_answered}
-use Rattle.laws.proofs.Kept.{kept, stands_fit, fit_stands}
-use Rattle.rules.proofs.Soundness.{SoundOptions, SoundOutputs, SoundLoad, SoundBurst, SoundCore, sound_core_lem}
-use Rattle.rules.proofs.Refusals.{power_up_accepted}
+use Rattle.laws.proofs.Kept.{event_kept, stands_fit, fit_stands}
+use Rattle.rules.proofs.Soundness.{SoundOptions, SoundOutputs, SoundLoad, SoundBurst, SoundCore, core_from, sound_core_lem}
+use Rattle.rules.proofs.Refusals.{power_up_accepted, refusal_stands}
 use Rattle.rules.proofs.Initial.{power_up_options}
 
 -- ---- Clocks keep it
@@ -288,7 +288,7 @@ play_sound c buf full (signal x) o h = signal_sound c buf x h
 pub done_stands : (s : State) (e : Event) → Ordinary e → Stands s → Stands (done s e).state
 unfolding done board_before
 done_stands s e o h =
-    fit_stands (done s e).state (play_sound s.board.core (stored s) _ e o (sound_core_lem s.board h.sound)) (kept s e o (stands_fit s h)).fit
+    fit_stands (done s e).state (core_from _ (play_sound s.board.core (stored s) _ e o (sound_core_lem s.board h.sound))) (event_kept s e o (stands_fit s h)).fit
 
 -- ---- A power-up gives it
 
@@ -296,7 +296,7 @@ pub up_stands : (s : State) (x : Settings) → refusal s (power_up x) ≡ 0 → 
 unfolding done board_before play place size_after
 up_stands s x h =
     let a = power_up_accepted s x h in
-    fit_stands (done s (power_up x)).state (initial_sound (options_of x) (power_up_options s x h))
+    fit_stands (done s (power_up x)).state (core_from _ (initial_sound (options_of x) (power_up_options s x h)))
     (record {
       good = record { first_lt = depth_pos x.fitted; count_le = omega arith; enough = a.1 };
       fitted = a.0.fitted;
@@ -305,14 +305,26 @@ up_stands s x h =
 
 -- ---- The laws
 
+-- an event that is done leaves one: a power-up gives it, and any other was done on one
+done_leaves : (s : State) (e : Event) → refusal s e ≡ 0 → Stands (done s e).state
+done_leaves s (power_up x) z = up_stands s x z
+done_leaves s (write a v) z = done_stands s (write a v) tt (refusal_stands s (write a v) tt z)
+done_leaves s (read a) z = done_stands s (read a) tt (refusal_stands s (read a) tt z)
+done_leaves s (signal x) z = done_stands s (signal x) tt (refusal_stands s (signal x) tt z)
+
 pub stands_kept : Stands-kept
 unfolding refused
-stands_kept s (power_up x) h = step_cases (λ o. Stands o.state) s (power_up x) (up_stands s x) (λ _. h)
-stands_kept s (write a v) h = step_cases (λ o. Stands o.state) s (write a v) (λ _. done_stands s (write a v) tt h) (λ _. h)
-stands_kept s (read a) h = step_cases (λ o. Stands o.state) s (read a) (λ _. done_stands s (read a) tt h) (λ _. h)
-stands_kept s (signal x) h = step_cases (λ o. Stands o.state) s (signal x) (λ _. done_stands s (signal x) tt h) (λ _. h)
+stands_kept s e h = step_cases (λ o. Stands o.state) s e (done_leaves s e) (λ _. h)
 
 pub stands_given : Stands-given
 stands_given s x h =
     let z : refusal s (power_up x) ≡ 0 = sym (refusal_answered s (power_up x)) ∙ h in
     rw (step_done s (power_up x) z) (up_stands s x z)
+
+pub in_run_start : InRun-start
+unfolding unpowered
+in_run_start m h = absurd (false≢true h)
+
+pub in_run_kept : InRun-kept
+unfolding refused
+in_run_kept s e k = step_cases (λ o. InRun o.state) s e (λ z _. done_leaves s e z) (λ _. k)

@@ -7,7 +7,7 @@ use lib.ListN.{get_or}
 use Rattle.rules.specs.Record.{depth, stored}
 use Rattle.laws.specs.Types.{signal}
 use Rattle.rules.specs.Clocks.{Op, closed, outgoing}
-use Rattle.rules.specs.Place.{Place, place_leave, place_again, times, place}
+use Rattle.rules.specs.Place.{Place, place_leave, place_again, times, place, place_of}
 use Rattle.rules.specs.Step.{step}
 use Rattle.rules.specs.Laws.Closed.{Closed}
 use Rattle.laws.specs.Moved.{group_size}
@@ -15,7 +15,7 @@ use Rattle.laws.specs.Places.{Clock-place}
 use Rattle.rules.proofs.Choice.{either}
 use Rattle.laws.proofs.Places.{mod_here, mod_shift}
 use Rattle.laws.proofs.Again.{onward, turns_others, turns_again}
-use Rattle.rules.proofs.Steps.{place_of, stored_length}
+use Rattle.rules.proofs.Steps.{stored_length}
 use Rattle.rules.proofs.Refusals.{refusal_stands}
 use Rattle.laws.proofs.Kept.{stands_fit}
 use Rattle.laws.proofs.Clocks.{outgoing_open, outgoing_closed, clock_ran}

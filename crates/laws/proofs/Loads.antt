@@ -17,7 +17,7 @@ use Rattle.rules.specs.Clocks.{Op, keep, store, Fate, none, was_stored, lost_to_
 use Rattle.rules.specs.Flags.{is_full}
 use Rattle.rules.specs.Writes.{write_control, write_mask, write_rate, write_adjust, buffer_of, tried, write_buffer, write_data, on_write}
 use Rattle.rules.specs.Play.{calibration_ends, settles, on_signal, play}
-use Rattle.rules.specs.Place.{Place, place_store, place}
+use Rattle.rules.specs.Place.{Place, place_store, place, place_of}
 use Rattle.rules.specs.Size.{code_of, size_after}
 use Rattle.rules.specs.Refusals.{refusal}
 use Rattle.rules.specs.Step.{Outcome, refused, played, placed, board_before, done, step}
@@ -26,12 +26,13 @@ use Rattle.rules.specs.Laws.Stays.{AllStay, all, ◌also◌}
 use Rattle.laws.specs.Loads.{besides_lost, Loaded, Load-loaded, IsLoad, Fate-none}
 use Rattle.laws.specs.Places.{Load-place}
 use Rattle.rules.proofs.Choice.{either}
-use Rattle.laws.proofs.Places.{on_list}
+use Rattle.laws.specs.Lists.{on_list}
 use Rattle.rules.proofs.Sizes.{depth_pos}
 use Rattle.laws.proofs.Offsets.{write_cases}
 use Rattle.rules.proofs.States.{closed_exactly, closed_not}
-use Rattle.rules.proofs.Steps.{place_of, step_done, step_refused, step_cases, stored_length}
-use Rattle.laws.proofs.Kept.{Kept, kept, stands_fit}
+use Rattle.rules.proofs.Steps.{step_done, step_refused, step_cases, stored_length}
+use Rattle.laws.specs.Kept.{Kept}
+use Rattle.laws.proofs.Kept.{event_kept, stands_fit}
 use Rattle.rules.proofs.Refusals.{refusal_stands}
 
 -- overflow flags put anew leave all else
@@ -74,7 +75,7 @@ module _ (s : State) (v : ℕ) where
         → (o.answer.fate ≡ fate_number p.fate) × (o.state.board.core ≡ p.core) × (stored o.state ≡ on_list p.op (stored s))
     unfolding o done board_before
     after_play_lem p e =
-        let k : Kept s (write 0x18 v) = kept s (write 0x18 v) tt (stands_fit s (refusal_stands s (write 0x18 v) tt h)) in
+        let k : Kept s (write 0x18 v) = event_kept s (write 0x18 v) tt (stands_fit s (refusal_stands s (write 0x18 v) tt h)) in
         (ap (λ (q : Play). fate_number q.fate) e, ap (λ (q : Play). q.core) e, k.lists ∙ ap (λ (q : Play). on_list q.op (stored s)) e)
 
     size_same : o.state.board.size ≡ s.board.size

@@ -16,7 +16,7 @@ use Rattle.rules.specs.Laws.Refusals.{Ordinary}
 use Rattle.laws.specs.Places.{Stored-at, Stored-length, MemoryKept, Memory-kept, Power-up-memory}
 use Rattle.laws.proofs.Places.{get_d_values}
 use Rattle.rules.proofs.Steps.{step_cases, stored_length}
-use Rattle.laws.proofs.Kept.{kept, stands_fit}
+use Rattle.laws.proofs.Kept.{event_kept, stands_fit}
 use Rattle.rules.proofs.Refusals.{refusal_stands}
 
 -- ---- The stored values
@@ -49,7 +49,7 @@ same_above d i m m' e h =
 
 done_memory : (s : State) (e : Event) → Ordinary e → refusal s e ≡ 0 → MemoryKept s (done s e)
 done_memory s e o h =
-    let k = (kept s e o (stands_fit s (refusal_stands s e o h))).same in
+    let k = (event_kept s e o (stands_fit s (refusal_stands s e o h))).same in
     record { long = k.long; above = λ i. same_above (depth s.board) i _ _ k.above; written = k.written }
 
 up_memory : (s : State) (x : Settings) → (done s (power_up x)).state.memory ≡ s.memory

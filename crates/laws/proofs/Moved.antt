@@ -22,7 +22,7 @@ use Rattle.rules.specs.Laws.Stays.{AllStay, all, ◌also◌}
 use Rattle.laws.specs.Moved.{besides_moved, group_size, ReadyToMove, level_at, MayMove, Idle-nothing, Clock-moves, Moved-most, Moved-group, Moved-none}
 use Rattle.rules.proofs.Choice.{cases, either}
 use Rattle.laws.proofs.Offsets.{write_cases}
-use Rattle.laws.proofs.Places.{on_list}
+use Rattle.laws.specs.Lists.{on_list}
 use Rattle.rules.proofs.Steps.{step_done, step_cases}
 use Rattle.rules.proofs.Soundness.{sound_core_lem}
 use Rattle.laws.proofs.Lasting.{cursor_zeroed}

@@ -1,8 +1,4 @@
--- The ring of values in memory, read as a list: what is done to the places does to the list what `Op` says.
---   Good d p       a place that a sound record of depth d can have
---   listed d p     its values in order
---   on_list op l    what an operation makes of the values in order
---   Allowed        the operations that a place allows
+-- The ring of values in memory, read as a list (specs/Lists.antt).
 use Prim.Native.Nat.{ℕ, zero, suc, ◌+◌, ◌-◌, ◌%◌, ◌≤◌, ◌<◌}
 use mathlib.Core.Path.{◌≡◌, refl, sym, ap, ap₂, ◌∙◌}
 use mathlib.Core.Logic.{◌≢◌, ◌⊎◌, inl, inr}
@@ -14,8 +10,9 @@ use native.Mathlib.Omega.{arith}
 use lib.ListN.{length, get_or, set, take, drop, length-set}
 use lib.Seq.{get_or-set_same, get_or-set_other, drop-set-lt, drop-drop, drop-append-le, take-append-le}
 use Rattle.rules.specs.Record.{value_span, values}
-use Rattle.rules.specs.Clocks.{Op, keep, clear, store, leave, recirculate}
+use Rattle.rules.specs.Clocks.{keep, clear, store, leave, recirculate}
 use Rattle.rules.specs.Place.{Place, place_store, place_leave, place_again, times, place}
+use Rattle.laws.specs.Lists.{Good, listed, on_list, StaysOrNew, Same, Placed, Place-listed}
 use Rattle.rules.proofs.Steps.{length_values}
 
 -- ---- Places modulo the depth
@@ -68,44 +65,7 @@ get_d_values d f (suc c) zero m hf h =
 get_d_values d f (suc c) (suc i) m hf h =
     get_d_values d ((f + 1) % d) c i m (mod-lt (f + 1) (omega arith)) (le_of_suc-le-suc h) ∙ ap (λ (x : ℕ). get_or m x 0 % value_span) (mod_shift f i d)
 
--- ---- Places and operations
-
-pub record Good (d : ℕ) (p : Place) : Type 0 where
-  pub first_lt : p.ring.first < d
-  pub count_le : p.ring.count ≤ d
-  pub enough : d ≤ length p.memory
-
-abbrev pub listed : ℕ → Place → List ℕ
-listed d p = values d p.ring.first p.ring.count p.memory
-
-unfoldable pub on_list : Op → List ℕ → List ℕ
-on_list keep l = l
-on_list clear l = []
-on_list (store v) l = l ++ (v % value_span ∷ [])
-on_list (leave k) l = drop k l
-on_list (recirculate k) l = drop k l ++ take k l
-
-abbrev pub Allowed : ℕ → ℕ → Op → Type 0
-Allowed d c keep = Unit {0}
-Allowed d c clear = zero < d
-Allowed d c (store v) = (c < d) × (v < value_span)
-Allowed d c (leave k) = k ≤ c
-Allowed d c (recirculate k) = k ≤ c
-
--- each entry stays, or is anew and of 17 bits
-abbrev pub StaysOrNew : List ℕ → List ℕ → Type 0
-StaysOrNew m m' = (i : ℕ) → (get_or m' i 0 ≡ get_or m i 0) ⊎ (get_or m' i 0 < value_span)
-
-pub record Same (d : ℕ) (m m' : List ℕ) : Type 0 where
-  pub long : length m' ≡ length m
-  pub above : drop d m' ≡ drop d m
-  pub written : StaysOrNew m m'
-
--- what is shown of each operation: the place after it is good, its values are the list l, and the memory changed only where it may
-pub record Placed (d : ℕ) (p p' : Place) (l : List ℕ) : Type 0 where
-  pub good : Good d p'
-  pub lists : listed d p' ≡ l
-  pub same : Same d p.memory p'.memory
+-- ---- Memories that changed only where they may
 
 same_refl : (d : ℕ) (m : List ℕ) → Same d m m
 same_refl d m = record { long = refl; above = refl; written = λ i. inl refl }
@@ -211,11 +171,11 @@ placed_turns d (suc k) p g h =
 
 -- ---- Any operation
 
-pub placed_op : (d : ℕ) (op : Op) (p : Place) → Good d p → Allowed d p.ring.count op → Placed d p (place d op p) (on_list op (listed d p))
+pub place_listed : Place-listed
 unfolding place on_list values
-placed_op d keep p g h = record { good = g; lists = refl; same = same_refl d p.memory }
-placed_op d clear p g h =
+place_listed d keep p g h = record { good = g; lists = refl; same = same_refl d p.memory }
+place_listed d clear p g h =
     record { good = record { first_lt = h; count_le = omega arith; enough = g.enough }; lists = refl; same = same_refl d p.memory }
-placed_op d (store v) p g h = placed_store d v p g h.0 h.1
-placed_op d (leave k) p g h = placed_leaves d k p g h
-placed_op d (recirculate k) p g h = placed_turns d k p g h
+place_listed d (store v) p g h = placed_store d v p g h.0 h.1
+place_listed d (leave k) p g h = placed_leaves d k p g h
+place_listed d (recirculate k) p g h = placed_turns d k p g h

@@ -10,7 +10,7 @@ use Rattle.rules.specs.Record.{State, depth, stored}
 use Rattle.rules.specs.Clocks.{clear, none, fate_number, Play, only, moving, moves, clock, clock_accepted, on_outside}
 use Rattle.rules.specs.Writes.{load_kept, load_asked, buffer_of, tried, write_buffer, on_write}
 use Rattle.rules.specs.Play.{on_signal, play}
-use Rattle.rules.specs.Place.{Place, place}
+use Rattle.rules.specs.Place.{Place, place, place_of}
 use Rattle.rules.specs.Size.{code_of, size_after}
 use Rattle.rules.specs.Refusals.{rows, refusal}
 use Rattle.rules.specs.Step.{reading, played, board_before, done}
@@ -18,10 +18,10 @@ use Rattle.rules.specs.Laws.Soundness.{Stands}
 use Rattle.rules.specs.Laws.Refusals.{Ordinary, heard, a_clock}
 use Rattle.laws.specs.Moved.{SameButRequest, Software-clock}
 use Rattle.rules.proofs.Choice.{either}
-use Rattle.laws.proofs.Places.{on_list}
+use Rattle.laws.specs.Lists.{on_list}
 use Rattle.laws.proofs.Allowed.{moving_le}
-use Rattle.rules.proofs.Steps.{place_of, step_done}
-use Rattle.laws.proofs.Kept.{kept, stands_fit}
+use Rattle.rules.proofs.Steps.{step_done}
+use Rattle.laws.proofs.Kept.{event_kept, stands_fit}
 use Rattle.laws.proofs.AddedBits.{bit_added, bit_others}
 use Rattle.laws.proofs.Lasting.{done_stands}
 use Rattle.rules.proofs.Refusals.{refusal_exactly, refusal_stands}
@@ -101,7 +101,7 @@ done_as_two s v st z =
     let first : Play = write_buffer s.board.core (stored s) v in
     let t = write_as_two s.board.core (stored s) v z d (place_of s) in
     let r : then_clock (stored s) first ≡ played (done s (write 0x0C v)).state (signal outside) =
-    ap (on_outside first.core) (sym (kept s (write 0x0C v) tt (stands_fit s st)).lists) in
+    ap (on_outside first.core) (sym (event_kept s (write 0x0C v) tt (stands_fit s st)).lists) in
     let q = t.places ∙ ap (λ (p : Play). place d p.op (place d first.op (place_of s))) r in
     let moved = t.moved ∙ ap (λ (p : Play). p.moved) r in
     let fate = t.fate ∙ ap (λ (p : Play). p.fate) r in

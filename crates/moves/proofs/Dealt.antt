@@ -15,7 +15,7 @@ use Rattle.rules.specs.Parts.{with_burst, with_load, with_outputs}
 use Rattle.rules.specs.Clocks.{leave, recirculate, closed, targets, moving, cursor_after, laid, carries_eof, burst_ends, burst_after, load_after, outgoing, moves, clock}
 use Rattle.rules.specs.Place.{Place, times, place}
 use Rattle.rules.proofs.Steps.{length_values}
-use Rattle.laws.proofs.Places.{Good}
+use Rattle.laws.specs.Lists.{Good}
 use Rattle.rules.proofs.Choice.{cond_false}
 use Rattle.rules.specs.declared.Core.{Core}
 use Rattle.rules.specs.declared.Ring.{Ring}

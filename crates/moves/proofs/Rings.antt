@@ -8,7 +8,8 @@ use native.Mathlib.Omega.{arith}
 use lib.ListN.{take, drop}
 use Rattle.rules.specs.Clocks.{leave, recirculate}
 use Rattle.rules.specs.Place.{Place, times, place}
-use Rattle.laws.proofs.Places.{Good, Placed, listed, on_list, placed_op}
+use Rattle.laws.specs.Lists.{Good, Placed, listed, on_list}
+use Rattle.laws.proofs.Places.{place_listed}
 use Rattle.rules.specs.declared.Ring.{Ring}
 use Rattle.moves.specs.Ready.{Ready}
 use Rattle.moves.specs.Does.{ring_place}
@@ -26,8 +27,8 @@ lap_less x d h l = sym (mod-eq-sub-mod h ∙ mod-eq_of_lt (omega arith))
 pub left_placed : (again : Bool) (d : ℕ) (p : Place) → Good d p → zero < p.ring.count
     → Placed d p (place_passed again d p) (cond again (drop 1 (listed d p) ++ take 1 (listed d p)) (drop 1 (listed d p)))
 unfolding place times on_list
-left_placed true d p g h = placed_op d (recirculate 1) p g h
-left_placed false d p g h = placed_op d (leave 1) p g h
+left_placed true d p g h = place_listed d (recirculate 1) p g h
+left_placed false d p g h = place_listed d (leave 1) p g h
 
 pub left_count : (again : Bool) (d : ℕ) (p : Place) → p.ring.count ≤ suc (place_passed again d p).ring.count
 left_count true d p = omega arith

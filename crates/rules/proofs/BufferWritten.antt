@@ -10,13 +10,12 @@ use Rattle.rules.specs.Clocks.{Op, keep, clear, none as no_fate, Play}
 use Rattle.rules.specs.Registers.{buffer_bits, registers, read_from}
 use Rattle.rules.specs.Writes.{load_kept, load_asked, buffer_of, tried, write_buffer, on_write}
 use Rattle.rules.specs.Play.{play}
-use Rattle.rules.specs.Place.{place}
+use Rattle.rules.specs.Place.{place, place_of}
 use Rattle.rules.specs.Size.{code_of, size_after}
 use Rattle.rules.specs.Step.{played}
 use Rattle.rules.specs.Laws.Stays.{all, ◌also◌}
 use Rattle.rules.specs.Laws.Written.{none, next, BufferWritten, Buffer-written}
 use Rattle.rules.proofs.Choice.{either, cond_apply}
-use Rattle.rules.proofs.Steps.{place_of}
 use Rattle.rules.proofs.Readings.{bit_number, get_d_low}
 use Rattle.rules.proofs.Played.{after_play, played_after}
 

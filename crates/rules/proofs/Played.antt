@@ -6,12 +6,12 @@ use mathlib.Core.Bool.{Bool}
 use Rattle.rules.specs.Types.{Event}
 use Rattle.rules.specs.Record.{State, depth}
 use Rattle.rules.specs.Clocks.{Play}
-use Rattle.rules.specs.Place.{Place, place}
+use Rattle.rules.specs.Place.{Place, place, place_of}
 use Rattle.rules.specs.Size.{size_after}
 use Rattle.rules.specs.Interrupt.{request_after}
 use Rattle.rules.specs.Refusals.{refusal}
 use Rattle.rules.specs.Step.{Outcome, played, board_before, done, step}
-use Rattle.rules.proofs.Steps.{place_of, step_done}
+use Rattle.rules.proofs.Steps.{step_done}
 
 abbrev pub place_after : State → Play → Place
 place_after s p = place (depth s.board) p.op (place_of s)

@@ -11,7 +11,7 @@ use lib.Pow.{pow_pos, pow_mono}
 use Rattle.rules.specs.Types.{Size}
 use Rattle.rules.specs.Record.{depth_of, active_size, channels}
 use Rattle.rules.specs.Flags.{is_full}
-use Rattle.rules.specs.Laws.Sizes.{Depth-doubles, Size-lesser}
+use Rattle.rules.specs.Laws.Sizes.{Depth-doubles, Size-lesser, Size-grows, Full-later}
 use Rattle.rules.proofs.Choice.{either}
 
 pub depth_doubles : Depth-doubles
@@ -44,19 +44,14 @@ channels_le kit = either (λ (n : ℕ). n ≤ 20) (eqb kit 0) (omega arith) (eit
 
 -- ---- Sizes of which neither code is lower
 
-infix 20 ◌⊑◌
-pub record ◌⊑◌ (s t : Size) : Type 0 where
-  pub fitted : s.fitted ≤ t.fitted
-  pub code : s.code ≤ t.code
-
-pub size_mono : (s t : Size) → s ⊑ t → active_size s ≤ active_size t
+pub size_grows : Size-grows
 unfolding active_size
-size_mono s t h = let k : 2 ^ min s.code s.fitted ≤ 2 ^ min t.code t.fitted = pow_mono (omega arith) in omega arith
+size_grows s t h = let k : 2 ^ min s.code s.fitted ≤ 2 ^ min t.code t.fitted = pow_mono (omega arith) in omega arith
 
 -- ---- Full
 
-pub full_mono : (s t : Size) (n : ℕ) → s ⊑ t → is_full s n ≡ false → is_full t n ≡ false
-full_mono s t n h e = lt-leb (active_size t) n (omega (arith, leb-false (active_size s) n e, size_mono s t h))
+pub full_later : Full-later
+full_later s t n h e = lt-leb (active_size t) n (omega (arith, leb-false (active_size s) n e, size_grows s t h))
 
 pub full_room : (s : Size) (n : ℕ) → is_full s n ≡ false → n < depth_of s.fitted
 full_room s n e = omega (arith, leb-false (active_size s) n e, size_depth s)

@@ -9,7 +9,6 @@ use lib.Dec.{eqb}
 use lib.ListN.{length}
 use Rattle.rules.specs.Types.{Event}
 use Rattle.rules.specs.Record.{State, depth, values, stored}
-use Rattle.rules.specs.Place.{Place}
 use Rattle.rules.specs.Refusals.{refusal}
 use Rattle.rules.specs.Step.{Outcome, refused, done, step}
 use Rattle.rules.specs.Laws.Refusals.{Refusal-answered}
@@ -51,6 +50,3 @@ length_values d f (suc c) m = ap suc (length_values d ((f + 1) % d) c m)
 pub stored_length : (s : State) → length (stored s) ≡ s.board.ring.count
 unfolding stored
 stored_length s = length_values (depth s.board) s.board.ring.first s.board.ring.count s.memory
-
-abbrev pub place_of : State → Place
-place_of s = record { ring = s.board.ring; memory = s.memory }

@@ -1,12 +1,15 @@
 -- Where the stored values stand in the sample memory (01, "The board record and its memory").
 use Rattle.std.specs.Prelude.{ℕ, zero, suc, ◌+◌, ◌-◌, ◌%◌, List, get_or, set}
 use Rattle.rules.specs.Types.{Ring}
-use Rattle.rules.specs.Record.{value_span}
+use Rattle.rules.specs.Record.{State, value_span}
 use Rattle.rules.specs.Clocks.{Op, keep, clear, store, leave, recirculate}
 
 pub record Place : Type 0 where
   pub ring : Ring
   pub memory : List ℕ
+
+abbrev pub place_of : State → Place
+place_of s = record { ring = s.board.ring; memory = s.memory }
 
 -- 01: "A value is stored at (first + count) mod depth."
 abbrev pub place_store : ℕ → ℕ → Place → Place

@@ -1,7 +1,9 @@
 -- How much a board holds, code by code.
-use Rattle.std.specs.Prelude.{ℕ, suc, ◌+◌, ◌≤◌, ◌≡◌}
+--   s ⊑ t    of the sizes s and t, neither code of t is lower
+use Rattle.std.specs.Prelude.{ℕ, suc, ◌+◌, ◌≤◌, ◌≡◌, false}
 use Rattle.rules.specs.Types.{Size}
 use Rattle.rules.specs.Record.{depth_of, active_size}
+use Rattle.rules.specs.Flags.{is_full}
 
 -- 01: "The depth is 8·2^d values.": 8 at code 0, and for each code more twice as many
 pub record Depths : Type 0 where
@@ -18,3 +20,17 @@ pub record OfTheLesser (z : Size) : Type 0 where
 
 abbrev pub Size-lesser : Type 0
 Size-lesser = (z : Size) → OfTheLesser z
+
+-- ---- Sizes of which neither code is lower
+
+infix 20 ◌⊑◌
+pub record ◌⊑◌ (s t : Size) : Type 0 where
+  pub fitted : s.fitted ≤ t.fitted
+  pub code : s.code ≤ t.code
+
+abbrev pub Size-grows : Type 0
+Size-grows = (s t : Size) → s ⊑ t → active_size s ≤ active_size t
+
+-- 01: "full at count ≥ size": at one count, the larger buffer is full no sooner
+abbrev pub Full-later : Type 0
+Full-later = (s t : Size) (n : ℕ) → s ⊑ t → is_full s n ≡ false → is_full t n ≡ false
