@@ -5,8 +5,7 @@ use native.Mathlib.Numerals.{add-one}
 use native.Mathlib.Omega.{arith}
 use lib.ListN.{length, get_or, drop, drop_of_length-le}
 use lib.Seq.{drop-cons}
-use mir.Syntax.{w16}
-use borrow.Kind.Array.{e_int, good_length}
+use borrow.Author.Rules.{rules}
 use Rattle.listing_rules.specs.Text.{levels_in, levels_line}
 use Rattle.file_rules.proofs.Joined.{then, piece_length, room_after}
 use Rattle.listing_rules.proofs.Numbers.{hex_long}
@@ -19,7 +18,7 @@ loop-k-init c =
 pub loop-k-preserved : goal.loop-k-preserved
 unfolding levels_in
 loop-k-preserved c =
-    let twenty : length c.args.levels ≡ 20 = good_length (e_int w16) 20 c.args.levels _ c.well_formed.1.1.0 in
+    let twenty : length c.args.levels ≡ 20 = search rules in
     let levels = c.args.levels in
     let k = c.loop-k.k in
     let inside : k < length levels = omega (arith, twenty) in
@@ -32,7 +31,7 @@ loop-k-preserved c =
 pub returns : goal.returns
 unfolding levels_in levels_line
 returns c =
-    let twenty : length c.args.levels ≡ 20 = good_length (e_int w16) 20 c.args.levels _ c.well_formed.1.1.0 in
+    let twenty : length c.args.levels ≡ 20 = search rules in
     let levels = c.args.levels in
     let none : drop c.loop-k.k levels ≡ [] = drop_of_length-le levels {i = c.loop-k.k} (omega (arith, twenty)) in
     then c.put_bytes-p.ensures (c.loop-k.invariant.2 _ _ (rw none c.put_byte.ensures))

@@ -1,6 +1,7 @@
 -- Each arm reads the fields of its kind, which are in the file by the length of that kind.
 use Prim.Native.Nat.{ℕ}
 use mathlib.Core.Path.{sym, ap, ◌∙◌}
+use mathlib.Core.Logic.{◌≢◌}
 use native.Mathlib.Omega.{arith}
 use borrow.Author.Tests.{eq-eqb, ne_eqb}
 use lib.Dec.{eqb}
@@ -54,7 +55,9 @@ returns-in-3 c =
 pub returns-in_default : goal.returns-in_default
 unfolding event_at event_of
 returns-in_default c =
-    let r = c.in_default.in_default-own.rest in
     let b = c.byte_at-kind.ensures.0 in
+    let no_power_up : c.byte_at-kind.result ≢ 1 = omega arith in
+    let no_write : c.byte_at-kind.result ≢ 2 = omega arith in
+    let no_read : c.byte_at-kind.result ≢ 3 = omega arith in
     ap Signal (c.signal_of.ensures.told ∙ ap signal_of b)
-    ∙ sym (cond_false _ _ _ (ne_eqb _ _ (λ h. r.0.0.1 (b ∙ h))) ∙ cond_false _ _ _ (ne_eqb _ _ (λ h. r.0.1 (b ∙ h))) ∙ cond_false _ _ _ (ne_eqb _ _ (λ h. r.1 (b ∙ h))))
+    ∙ sym (cond_false _ _ _ (ne_eqb _ _ (λ h. no_power_up (b ∙ h))) ∙ cond_false _ _ _ (ne_eqb _ _ (λ h. no_write (b ∙ h))) ∙ cond_false _ _ _ (ne_eqb _ _ (λ h. no_read (b ∙ h))))

@@ -2,6 +2,7 @@
 use Prim.Native.Nat.{◌^◌}
 use mathlib.Core.Path.{ap}
 use mathlib.Core.Bool.{Bool, ◌&&◌}
+use mathlib.Core.Logic.{◌≢◌}
 use native.Mathlib.Omega.{arith}
 use lib.Dec.{ltb}
 use borrow.Author.Tests.{lt-ltb, ne_eqb}
@@ -29,6 +30,8 @@ pub returns-in_default : goal.returns-in_default
 unfolding widths fit_widths
 returns-in_default c =
     let a = c.args in
-    let m = c.in_default.in_default-own in
-    rw (ne_eqb _ _ m.rest.0.0.1, ne_eqb _ _ m.rest.0.1, ne_eqb _ _ m.rest.1)
+    let no_power_up : a.kind ≢ 1 = omega arith in
+    let no_write : a.kind ≢ 2 = omega arith in
+    let no_read : a.kind ≢ 3 = omega arith in
+    rw (ne_eqb _ _ no_power_up, ne_eqb _ _ no_write, ne_eqb _ _ no_read)
     (λ i. none_told a.a i && (none_told a.b i && c.are_none-in_default.ensures i))
