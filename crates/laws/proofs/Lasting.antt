@@ -8,7 +8,7 @@ use native.Mathlib.Omega.{arith}
 use lib.Pow.{pow_pos}
 use Rattle.laws.specs.Types.{Settings, Options, Control, Mode, Calibration, Clock, Burst, Load, Lost, Outputs, Core, Event, power_up, write, read, signal, Signal, tick, outside, trigger, passed, failed, settled}
 use Rattle.rules.specs.Bits.{bit, active, active_from, head_or}
-use Rattle.rules.specs.Record.{State, channels, sound, stored, unpowered}
+use Rattle.rules.specs.Record.{State, channels, stored, unpowered}
 use Rattle.rules.specs.Parts.{no_burst, no_load, remade, with_clock, with_lost}
 use Rattle.rules.specs.Clocks.{Play, closed, next_channel, moving, cursor_after, burst_after, load_after, moves, clock, tick_accepted, clock_accepted, trigger_accepted, on_tick, on_outside, on_trigger}
 use Rattle.rules.specs.Writes.{initial, burst_of, cursor_of, calibration_of, write_control, write_mask, write_rate, write_adjust, load_kept, load_asked, buffer_of, tried, write_buffer, write_data, on_write}

@@ -1,4 +1,4 @@
--- Events done at once: what they change is what the step says, and the states of a run are kept by every event.
+-- Events done at once: what they change is what the step says.
 use Prim.Native.Nat.{ℕ, ◌%◌, ◌≤◌, ◌<◌}
 use mathlib.Core.Path.{◌≡◌, refl, sym, ap, subst, ◌∙◌}
 use mathlib.Core.Logic.{◌≢◌}
@@ -23,13 +23,11 @@ use Rattle.rules.specs.Place.{place}
 use Rattle.rules.specs.Size.{initialises, code_of, size_after}
 use Rattle.rules.specs.Interrupt.{conditions, condition, request_held, edge, request_after}
 use Rattle.rules.specs.Refusals.{refusal}
-use Rattle.rules.specs.Step.{Outcome, reading, played, board_before, with_request, refused, step}
+use Rattle.rules.specs.Step.{reading, played, board_before, with_request}
 use Rattle.rules.specs.Laws.Soundness.{Stands}
 use Rattle.rules.specs.Laws.Refusals.{written, heard, a_tick}
 use Rattle.rules.proofs.Choice.{all_cons, and_both, and_true, cond_true, cond_false}
-use Rattle.rules.proofs.Steps.{step_cases}
-use Rattle.laws.proofs.Lasting.{done_stands, up_stands}
-use Rattle.rules.proofs.Refusals.{refusal_exactly, refusal_stands}
+use Rattle.rules.proofs.Refusals.{refusal_exactly}
 use Rattle.moves.specs.declared.Played.{Played}
 use Rattle.moves.specs.declared.Stored.{Stored}
 use Rattle.moves.specs.Ready.{Ready}
@@ -42,16 +40,7 @@ use Rattle.board.proofs.Whole.{done_stepped}
 use Rattle.run.specs.declared.Ahead.{Ahead}
 use Rattle.run.specs.declared.Ahead.TheVariants.{Found, Over}
 use Rattle.listing.specs.declared.shortcuts.Common.{Common}
-use Rattle.listing.specs.Shortcuts.{common_event, uncommon, common_of, takes, ticks, quick, board_with, InRun}
-
--- ---- The states of a run
-
-pub in_run_step : (s : State) (e : Event) → InRun s → InRun (step s e).state
-unfolding refused
-in_run_step s (PowerUp x) k = step_cases (λ (o : Outcome). InRun o.state) s (PowerUp x) (λ z _. up_stands s x z) (λ _. k)
-in_run_step s (Write o v) k = step_cases (λ (o : Outcome). InRun o.state) s (Write o v) (λ z _. done_stands s (Write o v) tt (refusal_stands s (Write o v) tt z)) (λ _. k)
-in_run_step s (Read o) k = step_cases (λ (o : Outcome). InRun o.state) s (Read o) (λ z _. done_stands s (Read o) tt (refusal_stands s (Read o) tt z)) (λ _. k)
-in_run_step s (signal x) k = step_cases (λ (o : Outcome). InRun o.state) s (signal x) (λ z _. done_stands s (signal x) tt (refusal_stands s (signal x) tt z)) (λ _. k)
+use Rattle.listing.specs.Shortcuts.{common_event, uncommon, common_of, takes, ticks, quick, board_with}
 
 -- ---- Which event it is
 

@@ -11,6 +11,8 @@ use Rattle.rules.specs.declared.Board.{Board}
 use Rattle.rules.specs.Record.{State, state_of}
 use Rattle.rules.specs.Step.{step}
 use Rattle.rules.specs.Session.{after}
+use Rattle.laws.specs.Lasting.{InRun}
+use Rattle.laws.proofs.Lasting.{in_run_kept}
 use Rattle.file_rules.specs.declared.End.{End}
 use Rattle.file_rules.specs.File.{session}
 use Rattle.file_rules.proofs.Given.{item_grows}
@@ -26,10 +28,8 @@ use Rattle.run.proofs.Ways.{event_stood, way_start, way_on, way_over}
 use Rattle.file_rules.specs.Pieces.{Piece}
 use Rattle.file_rules.proofs.Joined.{then, piece_length}
 use Rattle.listing_rules.specs.Listing.{levels_of, ending}
-use Rattle.listing.specs.Shortcuts.{InRun}
 use Rattle.listing.specs.Draft.{Draft, draft, Page, Fills, Fair, Walked}
 use Rattle.listing.proofs.Body.{body_event, body_end}
-use Rattle.listing.proofs.AtOnce.{in_run_step}
 
 pub walked_start : (s : List ℕ) (c : Cursor) (k : Draft) → Fair s c k → Walked s c k c k
 walked_start s c k f = record { fair = f; way = λ start w. w; nearer = le_refl _ }
@@ -71,7 +71,7 @@ module _ (s : List ℕ) (c : Cursor) (b : Board) (m out : List ℕ) (at number :
             within = grows.1;
             numbered = omega (arith, f.numbered, grows.0);
             room = omega (arith, f.room, grows.0, grows.1, piece_length w, w.place, line_length number r.answer r.board.ring.count);
-            sound = subst InRun left (in_run_step (state_of b m) e f.sound);
+            sound = subst InRun left (in_run_kept (state_of b m) e f.sound);
           };
           way = λ start v. way_on Page Draft Fills s start (draft b m out at number) (draft r.board m' out' at' (number + 1)) c after e v h written;
           nearer = omega (arith, grows.0, grows.1);

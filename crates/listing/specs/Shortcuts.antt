@@ -7,8 +7,8 @@
 --   board_as b c r     the board b with the core c and the ring r
 --   board_with b ls    the board b with the levels ls
 --   board_of b r ls    the board b with what is new in r, and the levels ls
---   InRun s           the states of a run: not powered, or sound over enough memory
-use Rattle.std.specs.Prelude.{ℕ, ◌≡◌, Bool, true, not, cond, ◌&&◌, List, [], ◌∷◌, eqb, leb}
+--   InRun s           the states of a run: not powered, or sound over enough memory (of `laws`)
+use Rattle.std.specs.Prelude.{ℕ, Bool, not, cond, ◌&&◌, List, [], ◌∷◌, eqb, leb}
 use Rattle.rules.specs.declared.Signal.{Signal}
 use Rattle.rules.specs.declared.Signal.TheVariants.{Tick, Outside, Trigger, Passed, Failed, Settled}
 use Rattle.rules.specs.declared.Event.{Event}
@@ -17,10 +17,9 @@ use Rattle.rules.specs.declared.Core.{Core}
 use Rattle.rules.specs.declared.Ring.{Ring}
 use Rattle.rules.specs.declared.Board.{Board}
 use Rattle.rules.specs.Bits.{all}
-use Rattle.rules.specs.Record.{State}
 use Rattle.rules.specs.Parts.{with_burst, with_load, with_outputs}
 use Rattle.rules.specs.Clocks.{closed, tick_accepted}
-use Rattle.rules.specs.Laws.Soundness.{Stands}
+pub use Rattle.laws.specs.Lasting.{InRun}
 use Rattle.moves.specs.Promises.{with_levels}
 use Rattle.board.specs.declared.Reply.{Reply}
 use Rattle.run.specs.declared.Cursor.{Cursor}
@@ -87,6 +86,3 @@ board_of b r ls = record { core = core_with b.core r ls; size = b.size; request 
 
 abbrev pub reply_of : Board → Change → List ℕ → Reply
 reply_of b r ls = record { answer = record { refusal = 0; register = 0; moved = r.moved; fate = r.fate }; board = board_of b r ls }
-
-abbrev pub InRun : State → Type 0
-InRun s = s.board.core.powered ≡ true → Stands s
