@@ -2,8 +2,9 @@
 // No promise can say what is read or written: that rests on std's contracts, and on the C library below them.
 #![tactic(auto)]
 
-ghost use Rattle.std.specs.Prelude.{min, ◌≡◌, ◌≤◌, length, take};
+ghost use Rattle.std.specs.Prelude.{min, ◌≡◌, ◌<◌, ◌≤◌, length, take, IfOk};
 ghost use Rattle.std.specs.Io.{ReadsAtMost};
+ghost use Rattle.std.specs.Io.KnownBytes.{Consumes, IsAtEnd};
 
 use std::io;
 use std::io::{Print, Read, Write};
@@ -24,15 +25,18 @@ pub fn within(n: usize, buf: &[u8]) -> usize
     if n < buf.len() { n } else { buf.len() }
 }
 
-// Reads to the end of the input, or until buf is full.
+// Reads to the end of the input, or until buf is full. Where it is known what the input has, that stands at the front of buf then, and an
+// input that did not fill buf is at its end.
 pub fn read_all<R: Read>(input: &mut R, buf: &mut [u8]) -> io::Result<usize>
-    ensures { ReadsAtMost result buf.new }
+    ensures bound { ReadsAtMost result buf.new }
+    ensures bytes { IfOk result (λ n. Consumes (R.remaining input.old) (R.remaining input.new) (take n buf.new)) }
+    ensures end { IfOk result (λ n. n < length buf.new → IsAtEnd (R.remaining input.new)) }
 {
     let mut n: usize = 0;
     while n < buf.len() {
         let k = input.read(&mut buf[n..])?;
         if k == 0 {
-            break;
+            return Ok(n);
         }
         n += k;
     }
