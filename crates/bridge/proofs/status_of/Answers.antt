@@ -21,16 +21,14 @@ returns-then-answer-ne4 c = (
 
 pub returns-then-kind : goal.returns-then-kind
 unfolding call_status
-returns-then-kind c =
-    (
-      rw (eq-eqb _ _ c.if-row-ne-ROW_LONG.false, eq-eqb _ _ c.if-event-ne6.false, eq-eqb _ _ c.if-answer-ne4.false, c.if-kind.true),
-      λ k. absurd (omega arith),
-    )
+returns-then-kind c = (
+  rw (eq-eqb _ _ c.if-row-ne-ROW_LONG.false, eq-eqb _ _ c.if-event-ne6.false, eq-eqb _ _ c.if-answer-ne4.false, c.if-kind.true),
+  λ k. absurd (omega arith),
+)
 
 pub returns : goal.returns
 unfolding call_status
-returns c =
-    (
-      rw (eq-eqb _ _ c.if-row-ne-ROW_LONG.false, eq-eqb _ _ c.if-event-ne6.false, eq-eqb _ _ c.if-answer-ne4.false, c.if-kind.false),
-      λ _. record { record_long = c.if-row-ne-ROW_LONG.false; event_long = c.if-event-ne6.false; answer_long = c.if-answer-ne4.false },
-    )
+returns c = (
+  rw (eq-eqb _ _ c.if-row-ne-ROW_LONG.false, eq-eqb _ _ c.if-event-ne6.false, eq-eqb _ _ c.if-answer-ne4.false, c.if-kind.false),
+  λ _. record { record_long = c.if-row-ne-ROW_LONG.false; event_long = c.if-event-ne6.false; answer_long = c.if-answer-ne4.false },
+)
