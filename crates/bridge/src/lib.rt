@@ -28,7 +28,8 @@ fn status_of(row: usize, event: &[u32], answer: usize) -> u32
     if event.len() != 6 {
         return 2;
     }
-    if answer != 4 {
+    let misfit = answer != 4;
+    if misfit {
         return 3;
     }
     let kind = event[0];
@@ -85,7 +86,8 @@ pub fn nergutsai_rate(row: &[u32], figures: &mut [u32]) -> u32
     if row.len() != ROW_LONG {
         return 1;
     }
-    if figures.len() != 3 {
+    let misfit = figures.len() != 3;
+    if misfit {
         return 3;
     }
     put_figures(rate(board_at(row)), figures);

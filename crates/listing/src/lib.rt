@@ -27,14 +27,16 @@ pub enum Listed {
 pub fn list(s: &[u8], memory: &mut [u32], out: &mut [u8]) -> Listed
     ensures { Lists s.now memory.old out.old result memory.new out.new }
 {
-    if 65536 < s.len() {
+    let too_long = 65536 < s.len();
+    if too_long {
         if out.len() < 9 {
             return Listed::Short(9);
         }
         return Listed::Text(put_text(out, 0, b"TOO LONG\n"));
     }
     let room = 160 + 22 * s.len();
-    if out.len() < room {
+    let short = out.len() < room;
+    if short {
         return Listed::Short(room);
     }
     let at = put_text(out, 0, b"REHEARSAL 1\n");

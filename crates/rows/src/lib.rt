@@ -29,7 +29,8 @@ pub fn board_at(row: &[u32]) -> Board
 pub fn put_board(b: Board, row: &mut [u32]) -> bool
     ensures { Put b row.old result row.new }
 {
-    if row.len() != ROW_LONG {
+    let other = row.len() != ROW_LONG;
+    if other {
         return false;
     }
     put_whole(b, row);

@@ -27,7 +27,8 @@ pub struct Smallest {
 fn answer_of(k: u32) -> Smallest
     ensures { result ≡ answer_of k }
 {
-    if k < 16 {
+    let played = k < 16;
+    if played {
         return Smallest {
             refusal: 0,
             code: k,

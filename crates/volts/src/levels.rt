@@ -27,7 +27,8 @@ pub(crate) fn volts_of(range: u32, level: u16) -> f32
 {
     let k = factor_of(range);
     let n = level as u32;
-    if n < 32768 {
+    let negative = n < 32768;
+    if negative {
         return -share_of((32768 - n) * k);
     }
     share_of((n - 32768) * k)

@@ -25,13 +25,13 @@ pub returns-then-row-ne-ROW_LONG : goal.returns-then-row-ne-ROW_LONG
 unfolding rate_status
 returns-then-row-ne-ROW_LONG c = not_understood _ _ 1 (rw (ne_eqb _ _ c.if-row-ne-ROW_LONG.true)) refl
 
-pub returns-then-figures-ne3 : goal.returns-then-figures-ne3
+pub returns-then-misfit : goal.returns-then-misfit
 unfolding rate_status
-returns-then-figures-ne3 c = not_understood _ _ 3 (rw (eq-eqb _ _ c.if-row-ne-ROW_LONG.false, ne_eqb _ _ c.if-figures-ne3.true)) refl
+returns-then-misfit c = not_understood _ _ 3 (rw (eq-eqb _ _ c.if-row-ne-ROW_LONG.false, ne_eqb _ _ c.if-misfit.true)) refl
 
 pub returns : goal.returns
 unfolding rate_status
 returns c =
     let long = c.if-row-ne-ROW_LONG.false in
-    understood _ _ _ (rw (eq-eqb _ _ long, eq-eqb _ _ c.if-figures-ne3.false))
+    understood _ _ _ (rw (eq-eqb _ _ long, eq-eqb _ _ c.if-misfit.false))
     (c.put_figures.ensures ∙ ap figures_row (c.rate.ensures.told ∙ ap rates (read_whole _ _ long c.board_at.ensures)))

@@ -12,23 +12,23 @@ pub returns-then-event-ne6 : goal.returns-then-event-ne6
 unfolding call_status
 returns-then-event-ne6 c = (rw (eq-eqb _ _ c.if-row-ne-ROW_LONG.false, ne_eqb _ _ c.if-event-ne6.true), λ k. absurd (omega arith))
 
-pub returns-then-answer-ne4 : goal.returns-then-answer-ne4
+pub returns-then-misfit : goal.returns-then-misfit
 unfolding call_status
-returns-then-answer-ne4 c = (
-  rw (eq-eqb _ _ c.if-row-ne-ROW_LONG.false, eq-eqb _ _ c.if-event-ne6.false, ne_eqb _ _ c.if-answer-ne4.true),
+returns-then-misfit c = (
+  rw (eq-eqb _ _ c.if-row-ne-ROW_LONG.false, eq-eqb _ _ c.if-event-ne6.false, ne_eqb _ _ c.if-misfit.true),
   λ k. absurd (omega arith),
 )
 
 pub returns-then-kind : goal.returns-then-kind
 unfolding call_status
 returns-then-kind c = (
-  rw (eq-eqb _ _ c.if-row-ne-ROW_LONG.false, eq-eqb _ _ c.if-event-ne6.false, eq-eqb _ _ c.if-answer-ne4.false, c.if-kind.true),
+  rw (eq-eqb _ _ c.if-row-ne-ROW_LONG.false, eq-eqb _ _ c.if-event-ne6.false, eq-eqb _ _ c.if-misfit.false, c.if-kind.true),
   λ k. absurd (omega arith),
 )
 
 pub returns : goal.returns
 unfolding call_status
 returns c = (
-  rw (eq-eqb _ _ c.if-row-ne-ROW_LONG.false, eq-eqb _ _ c.if-event-ne6.false, eq-eqb _ _ c.if-answer-ne4.false, c.if-kind.false),
-  λ _. record { record_long = c.if-row-ne-ROW_LONG.false; event_long = c.if-event-ne6.false; answer_long = c.if-answer-ne4.false },
+  rw (eq-eqb _ _ c.if-row-ne-ROW_LONG.false, eq-eqb _ _ c.if-event-ne6.false, eq-eqb _ _ c.if-misfit.false, c.if-kind.false),
+  λ _. record { record_long = c.if-row-ne-ROW_LONG.false; event_long = c.if-event-ne6.false; answer_long = c.if-misfit.false },
 )

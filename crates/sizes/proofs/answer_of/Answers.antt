@@ -13,8 +13,8 @@ below k l = rw (lt-ltb k codes l)
 beyond : (k : ℕ) → codes ≤ k → ◌≡◌ {A = Smallest} (record { refusal = 19; code = 0 }) (answer_of k)
 beyond k l = rw (le-ltb k codes l)
 
-pub returns-then-k-lt16 : goal.returns-then-k-lt16
-returns-then-k-lt16 c = below c.args.k (omega (arith, c.if-k-lt16.true))
+pub returns-then-played : goal.returns-then-played
+returns-then-played c = below c.args.k (omega (arith, c.if-played.true))
 
 pub returns : goal.returns
-returns c = beyond c.args.k (omega (arith, c.if-k-lt16.false))
+returns c = beyond c.args.k (omega (arith, c.if-played.false))

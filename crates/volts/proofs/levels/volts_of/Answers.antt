@@ -17,10 +17,10 @@ overflow_mul-n c = omega (arith, small (32768 - c.args.level) _ _ (omega arith) 
 pub share_of-requires : goal.share_of-requires
 share_of-requires c = omega (arith, small (32768 - c.args.level) _ _ (omega arith) c.factor_of-k.ensures)
 
-pub returns-then-n-lt32768 : goal.returns-then-n-lt32768
+pub returns-then-negative : goal.returns-then-negative
 unfolding volts_of
-returns-then-n-lt32768 c =
-    rw (lt-ltb _ _ c.if-n-lt32768.true, sym c.factor_of-k.ensures) (ap neg c.share_of.ensures)
+returns-then-negative c =
+    rw (lt-ltb _ _ c.if-negative.true, sym c.factor_of-k.ensures) (ap neg c.share_of.ensures)
 
 pub overflow_mul-n-2 : goal.overflow_mul-n-2
 overflow_mul-n-2 c = omega (arith, small (c.args.level - 32768) _ _ (omega arith) c.factor_of-k.ensures)
@@ -30,4 +30,4 @@ share_of-requires-2 c = omega (arith, small (c.args.level - 32768) _ _ (omega ar
 
 pub returns : goal.returns
 unfolding volts_of
-returns c = rw (le-ltb _ _ c.if-n-lt32768.false, sym c.factor_of-k.ensures) c.share_of-2.ensures
+returns c = rw (le-ltb _ _ c.if-negative.false, sym c.factor_of-k.ensures) c.share_of-2.ensures
