@@ -2,5 +2,5 @@
 pub use Rattle.rules.specs.declared.Event.{Event}
 pub use Rattle.rules.specs.declared.Event.TheVariants.{Signal as signal}
 pub use Rattle.rules.specs.declared.Answer.{Answer}
-pub use Rattle.rules.specs.declared.Figures.{Figures}
+pub use Rattle.rules.specs.Rates.{Figures}
 pub use Rattle.rules.specs.declared.Board.{Board}

@@ -6,10 +6,10 @@ use native.Mathlib.Nat.{div-add-mod', mod-lt, suc-mul}
 use native.Mathlib.Omega.{arith}
 use borrow.Author.Tests.{eqb-true, eqb-false, eq-eqb, ne_eqb}
 use lib.Dec.{eqb}
-use Rattle.rules.specs.Types.{Figures, Board}
+use Rattle.rules.specs.Types.{Board}
 use Rattle.rules.specs.Record.{sound}
 use Rattle.rules.specs.Refusals.{first_of}
-use Rattle.rules.specs.Rates.{reference_of, whole_reference, sample_rate, rate_refusal, rates}
+use Rattle.rules.specs.Rates.{reference_of, whole_reference, sample_rate, rate_refusal, Figures, rates}
 use Rattle.rules.specs.Laws.Rates.{RateGiven, unsound, external, divisor_zero, answered, Rate-exactly, Rate-refused, RoundedDown, RateFigures, Rate-figures}
 use Rattle.rules.proofs.Choice.{cases, not_true, not_both, not_not}
 use Rattle.rules.proofs.Soundness.{sound_exactly}

@@ -2,12 +2,12 @@
 --   Case      a session from power-up, and what is to be seen of it
 --   Sight     a look at the session and the numbers that it shows
 use Rattle.std.specs.Prelude.{ℕ, ◌≡◌, Bool, true, false, cond, List, [], ◌∷◌, eqb, replicate, take}
-use Rattle.rules.specs.Types.{Figures, Event, power_up, write, read, signal, tick, trigger}
+use Rattle.rules.specs.Types.{Event, power_up, write, read, signal, tick, trigger}
 use Rattle.rules.specs.Bits.{bit, flag}
 use Rattle.rules.specs.Record.{State, stored, start}
 use Rattle.rules.specs.Step.{Outcome, step}
 use Rattle.rules.specs.Session.{after}
-use Rattle.rules.specs.Rates.{rates}
+use Rattle.rules.specs.Rates.{Figures, rates}
 
 -- ---- Events of the bench
 

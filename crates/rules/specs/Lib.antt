@@ -14,6 +14,7 @@ pub mod Interrupt
 pub mod Refusals
 pub mod Step
 pub mod Rates
+pub mod Numbered
 pub mod Session
 pub mod Bench
 pub mod Examples

@@ -1,6 +1,6 @@
 -- The rate question (manual 3.4.3.1.2 and 3.10.1; 01, "Rate figures"). It asks a board record alone, and no memory.
 use Rattle.std.specs.Prelude.{ℕ, ◌+◌, ◌*◌, ◌/◌, not, cond, [], ◌∷◌, eqb}
-use Rattle.rules.specs.Types.{Figures, Board, Clock}
+use Rattle.rules.specs.Types.{Board, Clock}
 use Rattle.rules.specs.Record.{sound}
 use Rattle.rules.specs.Refusals.{◌when◌, first_of}
 
@@ -26,6 +26,11 @@ rate_refusal b =
     ∷ [])
 
 -- 01: "A rate question answers refusal number, whole reference and rate, the last two 0 when refused."
+pub record Figures : Type 0 where
+  pub refusal : ℕ
+  pub reference : ℕ
+  pub rate : ℕ
+
 unfoldable pub rates : Board → Figures
 rates b =
     cond (eqb (rate_refusal b) 0)

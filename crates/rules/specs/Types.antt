@@ -6,7 +6,9 @@ pub use Rattle.rules.specs.declared.Signal.TheVariants.{Passed as passed, Failed
 pub use Rattle.rules.specs.declared.Event.{Event}
 pub use Rattle.rules.specs.declared.Event.TheVariants.{PowerUp as power_up, Write as write, Read as read, Signal as signal}
 pub use Rattle.rules.specs.declared.Answer.{Answer}
-pub use Rattle.rules.specs.declared.Figures.{Figures}
+pub use Rattle.rules.specs.declared.Refusal.{Refusal}
+pub use Rattle.rules.specs.declared.Fate.{Fate}
+pub use Rattle.rules.specs.declared.Frequencies.{Frequencies}
 pub use Rattle.rules.specs.declared.Options.{Options}
 pub use Rattle.rules.specs.declared.Size.{Size}
 pub use Rattle.rules.specs.declared.Control.{Control}

@@ -17,7 +17,7 @@ pub struct Settings {
 
 // What reaches the board otherwise than over the bus: a tick of the rate generator, an outside clock, an outside trigger,
 // the end of a calibration, the end of settling.
-#[derive(Clone, Copy)]
+#[derive(Clone, Copy, Debug, PartialEq, Eq)]
 pub enum Signal {
     Tick,
     Outside,
@@ -47,10 +47,37 @@ pub struct Answer {
     pub fate: u32,
 }
 
-// 01: "A rate question answers refusal number, whole reference and rate, the last two 0 when refused."
-#[derive(Clone, Copy)]
-pub struct Figures {
-    pub refusal: u32,
+// Why an event or a rate question is refused; `as u32` is document 01's number of it, as `refusal_number` in specs/Numbered.antt says.
+#[derive(Clone, Copy, Debug, PartialEq, Eq)]
+pub enum Refusal {
+    FittedCode = 1,
+    ShortMemory = 2,
+    Unsound = 3,
+    NoRegister = 4,
+    ReadOnly = 5,
+    Calibrating = 6,
+    NothingEnds = 7,
+    DivisorZero = 8,
+    ExternalClock = 9,
+    RangeCode = 14,
+    FilterCode = 15,
+    KitCode = 16,
+    Firmware = 17,
+}
+
+// 01: "load fate (0 none, 1 stored, 2 lost to full, 3 lost to closed)"; `as u32` is that number, as `fate_number` in specs/Numbered.antt
+// says.
+#[derive(Clone, Copy, Debug, PartialEq, Eq)]
+pub enum Fate {
+    NoLoad = 0,
+    Stored = 1,
+    LostToFull = 2,
+    LostToClosed = 3,
+}
+
+// 01: "A rate question answers .. whole reference and rate", in hertz.
+#[derive(Clone, Copy, Debug, PartialEq, Eq)]
+pub struct Frequencies {
     pub reference: u32,
     pub rate: u32,
 }
@@ -59,7 +86,7 @@ pub struct Figures {
 
 // What power-up fixes, but for the fitted code. The numbers of a record are 32 bits wide, so that any damaged record can be handed in:
 // soundness is a test, and no matter of types.
-#[derive(Clone, Copy)]
+#[derive(Clone, Copy, Default)]
 pub struct Options {
     pub range: u32,
     pub filter: u32,
@@ -68,14 +95,14 @@ pub struct Options {
 }
 
 // The fitted code d and the size code (BOR D00-D03): all that says how much the active buffer holds.
-#[derive(Clone, Copy)]
+#[derive(Clone, Copy, Default)]
 pub struct Size {
     pub fitted: u32,
     pub code: u32,
 }
 
 // BCR D00, D03 to D10.
-#[derive(Clone, Copy)]
+#[derive(Clone, Copy, Default)]
 pub struct Control {
     pub bursts: bool,
     pub ground_sense: bool,
@@ -87,7 +114,7 @@ pub struct Control {
 }
 
 // BOR D04, D05, D08.
-#[derive(Clone, Copy)]
+#[derive(Clone, Copy, Default)]
 pub struct Mode {
     pub external: bool,
     pub enabled: bool,
@@ -95,7 +122,7 @@ pub struct Mode {
 }
 
 // Calibrating (BCR D13), failed (BCR D14), and 01's "calibrated".
-#[derive(Clone, Copy)]
+#[derive(Clone, Copy, Default)]
 pub struct Calibration {
     pub running: bool,
     pub failed: bool,
@@ -103,7 +130,7 @@ pub struct Calibration {
 }
 
 // 08h and 1Ch, and whether the adjustable clock is settling.
-#[derive(Clone, Copy)]
+#[derive(Clone, Copy, Default)]
 pub struct Clock {
     pub divisor: u32,
     pub nclk: u32,
@@ -112,28 +139,28 @@ pub struct Clock {
 }
 
 // A burst in progress, and whether software started it.
-#[derive(Clone, Copy)]
+#[derive(Clone, Copy, Default)]
 pub struct Burst {
     pub running: bool,
     pub software: bool,
 }
 
 // A load request that waits for the frame's end, and a circular buffer that one has opened.
-#[derive(Clone, Copy)]
+#[derive(Clone, Copy, Default)]
 pub struct Load {
     pub pending: bool,
     pub opened: bool,
 }
 
 // BUFFER OVERFLOW (BOR D16) and FRAME OVERFLOW (BOR D17).
-#[derive(Clone, Copy)]
+#[derive(Clone, Copy, Default)]
 pub struct Lost {
     pub full: bool,
     pub closed: bool,
 }
 
 // The channel mask (04h), the channel cursor of sequential mode, and the twenty levels.
-#[derive(Clone, Copy)]
+#[derive(Clone, Copy, Default)]
 pub struct Outputs {
     pub mask: u32,
     pub cursor: u32,
@@ -141,7 +168,7 @@ pub struct Outputs {
 }
 
 // All of the board but its size, its interrupt request and where its values stand: what the rules of play may see.
-#[derive(Clone, Copy)]
+#[derive(Clone, Copy, Default)]
 pub struct Core {
     pub powered: bool,
     pub options: Options,
@@ -156,13 +183,13 @@ pub struct Core {
 }
 
 // Where the stored values stand in the sample memory.
-#[derive(Clone, Copy)]
+#[derive(Clone, Copy, Default)]
 pub struct Ring {
     pub first: u32,
     pub count: u32,
 }
 
-#[derive(Clone, Copy)]
+#[derive(Clone, Copy, Default)]
 pub struct Board {
     pub core: Core,
     pub size: Size,
