@@ -3,7 +3,7 @@ use Prim.Native.Nat.{ℕ}
 use mathlib.Core.Path.{◌≡◌, refl, sym, ap, ◌∙◌}
 use mathlib.Core.List.{List, [], ◌∷◌, ◌++◌, append_assoc}
 use borrow.Author.Tests.{eq-eqb, ne_eqb}
-use Rattle.rules.specs.declared.Answer.{Answer}
+use Rattle.rules.specs.Types.{Answer}
 use Rattle.basics.specs.Ascii.{newline, space}
 use Rattle.listing_rules.specs.Text.{decimal, decimal_in, hex, line, levels_line, file_line, tail}
 use Rattle.file_rules.specs.Pieces.{Piece}

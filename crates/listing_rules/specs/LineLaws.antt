@@ -5,7 +5,7 @@
 --   Line-says       six fields between single spaces and a newline, each read back to its number
 --   Levels-say      LEVELS, and each level in its turn, read back
 use Rattle.std.specs.Prelude.{ℕ, ◌+◌, ◌^◌, ◌<◌, ◌≡◌, cond, List, [], ◌∷◌, ◌++◌, eqb, length, get_or}
-use Rattle.rules.specs.declared.Answer.{Answer}
+use Rattle.rules.specs.Types.{Answer}
 use Rattle.rules.specs.declared.Event.{Event}
 use Rattle.rules.specs.Record.{start}
 use Rattle.rules.specs.Step.{Outcome, step}
