@@ -2,27 +2,30 @@
 // said in specs/.
 #![tactic(auto)]
 
-use rules::Event;
+use rules::Signal;
 
-// Why a file is refused; `fault_number` in specs/File.antt has 01's numbers.
-#[derive(Clone, Copy)]
+// The kinds of a record. 01: "1 power-up ..; 2 write ..; 3 read ..; 4 tick, 5 outside clock, 6 trigger, 7 calibration passed, 8 failed,
+// 9 settled"; `kind_number` in specs/Kinds.antt has the numbers.
+#[derive(Clone, Copy, Debug, PartialEq, Eq)]
+pub enum Kind {
+    PowerUp,
+    Write,
+    Read,
+    Signal(Signal),
+}
+
+// Why a file is refused; `as u32` is 01's number of it, as `fault_number` in specs/File.antt says.
+#[derive(Clone, Copy, Debug, PartialEq, Eq)]
 pub enum Fault {
-    Version,
-    Cut,
-    Length,
-    Kind,
+    Version = 10,
+    Cut = 11,
+    Length = 12,
+    Kind = 13,
 }
 
-// How a file ends: with its last byte, or refused at the place where a record starts.
-#[derive(Clone, Copy)]
-pub enum End {
-    File,
-    Refused(Fault, usize),
-}
-
-// What stands at a place: an event, with the place of the next record; or the end.
-#[derive(Clone, Copy)]
-pub enum Item {
-    Got(Event, usize),
-    Over(End),
+// A file that is refused: why, and the place where the record starts.
+#[derive(Clone, Copy, Debug, PartialEq, Eq)]
+pub struct FileError {
+    pub fault: Fault,
+    pub place: usize,
 }

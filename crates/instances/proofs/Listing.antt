@@ -15,7 +15,7 @@ use Rattle.rules.specs.Session.{outcomes, after}
 use Rattle.rules.proofs.Open.{rules_open}
 use Rattle.rules.proofs.Bench.{alike, alike_equal}
 use Rattle.file_rules.specs.declared.Fault.TheVariants.{Version, Kind}
-use Rattle.file_rules.specs.declared.End.TheVariants.{Refused}
+use Rattle.file_rules.specs.Item.{Refused}
 use Rattle.file_rules.specs.Bytes.{records_of, file_of, AllFit, none, next}
 use Rattle.file_rules.specs.File.{fault_number, byte_at, length_of, signal_of, event_of, event_at, whole_record, record_at, item_at, Session, on_item, from, session}
 use Rattle.file_rules.specs.Laws.{bad_version}

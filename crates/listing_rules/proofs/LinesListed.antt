@@ -12,8 +12,8 @@ use Rattle.rules.specs.Record.{State, start}
 use Rattle.rules.specs.Step.{Outcome, step}
 use Rattle.rules.specs.Session.{outcomes, after}
 use Rattle.file_rules.specs.declared.Fault.TheVariants.{Version, Cut, Length, Kind}
-use Rattle.file_rules.specs.declared.End.{End}
-use Rattle.file_rules.specs.declared.End.TheVariants.{File, Refused}
+use Rattle.file_rules.specs.Item.{End}
+use Rattle.file_rules.specs.Item.{File, Refused}
 use Rattle.file_rules.specs.File.{fault_number, session}
 use Rattle.basics.specs.Ascii.{ascii, newline, space}
 use Rattle.listing_rules.specs.Text.{heading, file_head, levels_head, decimal, hex, line, levels_in, levels_line, file_line, tail}

@@ -11,7 +11,7 @@ use Rattle.rules.specs.Record.{start}
 use Rattle.rules.specs.Step.{Outcome, step}
 use Rattle.rules.specs.Session.{after}
 use Rattle.file_rules.specs.declared.Fault.{Fault}
-use Rattle.file_rules.specs.declared.End.TheVariants.{File, Refused}
+use Rattle.file_rules.specs.Item.{File, Refused}
 use Rattle.file_rules.specs.File.{fault_number, session}
 use Rattle.basics.specs.Ascii.{ascii, newline, space}
 use Rattle.listing_rules.specs.Text.{decimal, line, levels_line}

@@ -10,7 +10,8 @@ use Rattle.rules.specs.declared.Core.{Core}
 use Rattle.rules.specs.declared.Ring.{Ring}
 use Rattle.rules.specs.Record.{value_span}
 use Rattle.rules.specs.Parts.{with_lost}
-use Rattle.rules.specs.Clocks.{Play, keep, store, was_stored, lost_to_full, lost_to_closed, fate_number, only, closed}
+use Rattle.rules.specs.Clocks.{Play, keep, store, fate_number, only, closed}
+use Rattle.rules.specs.declared.Fate.TheVariants.{Stored as was_stored, LostToFull as lost_to_full, LostToClosed as lost_to_closed}
 use Rattle.rules.specs.Writes.{write_data}
 use Rattle.rules.specs.Place.{place}
 use Rattle.moves.specs.declared.Stored.{Stored}

@@ -4,7 +4,7 @@
 --   clock c buf what an accepted clock does, the stored values being buf
 use Rattle.std.specs.Prelude.{ℕ, zero, suc, ◌+◌, ◌%◌, Bool, true, false, not, ◌&&◌, ◌||◌, cond, List, [], ◌∷◌, ◌++◌, map, ltb, eqb, length, take, set}
 use Rattle.rules.specs.Types.{Burst, Load, Core}
-pub use Rattle.rules.specs.Types.{Fate, none, was_stored, lost_to_full, lost_to_closed}
+use Rattle.rules.specs.Types.{Fate, none, was_stored, lost_to_full, lost_to_closed}
 use Rattle.rules.specs.Bits.{bit, active_from, head_or, some}
 use Rattle.rules.specs.Record.{level_span}
 use Rattle.rules.specs.Parts.{no_burst, with_burst, with_load, with_outputs}

@@ -8,7 +8,7 @@ use lib.ListN.{length}
 use Rattle.rules.specs.declared.Signal.TheVariants.{Tick}
 use Rattle.rules.specs.declared.Event.{Event}
 use Rattle.rules.specs.declared.Event.TheVariants.{Write, Signal as signal}
-use Rattle.file_rules.specs.declared.Item.TheVariants.{Got}
+use Rattle.file_rules.specs.Item.{Got}
 use Rattle.file_rules.specs.File.{byte_at, word_at, quad_at, signal_of, event_at, item_at, event_of}
 use Rattle.file_rules.specs.Laws.{Known, Whole, event, later}
 use Rattle.file_rules.specs.Laws.{write as write_known, signal as signal_known}

@@ -9,8 +9,8 @@ use lib.Dec.{eqb}
 use lib.ListN.{length}
 use Rattle.rules.proofs.Choice.{and_both, cond_true, cond_false}
 use Rattle.file_rules.specs.declared.Fault.TheVariants.{Version}
-use Rattle.file_rules.specs.declared.End.TheVariants.{Refused}
-use Rattle.file_rules.specs.declared.Item.TheVariants.{Over}
+use Rattle.file_rules.specs.Item.{Refused}
+use Rattle.file_rules.specs.Item.{Over}
 use Rattle.file_rules.specs.File.{byte_at, record_at, item_at}
 
 -- an empty file has no first byte

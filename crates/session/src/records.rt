@@ -1,7 +1,7 @@
 // The records of a file.
 ghost use Rattle.std.specs.Prelude.{◌≡◌, cond, eqb};
-ghost use Rattle.file_rules.specs.declared.End.TheVariants.{Refused};
-ghost use Rattle.file_rules.specs.declared.Item.TheVariants.{Over};
+ghost use Rattle.file_rules.specs.Item.{Refused};
+ghost use Rattle.file_rules.specs.Item.{Over};
 ghost use Rattle.file_rules.specs.File.{byte_at, record_at};
 
 use crate::fields::{byte_at, event_at, word_at};

@@ -5,7 +5,7 @@ use native.Mathlib.Omega.{arith}
 use borrow.Author.Rules.{rules}
 use Rattle.rules.specs.declared.Event.TheVariants.{Write}
 use Rattle.rules.proofs.Equal.{told_in_numbers}
-use Rattle.file_rules.specs.declared.Item.TheVariants.{Got}
+use Rattle.file_rules.specs.Item.{Got}
 use Rattle.file_rules.specs.Numbers.{item_numbers}
 use Rattle.session.proofs.Commonest.{tick_stands, load_stands}
 use Rattle.session.proofs.item_at.Goals as goal

@@ -2,7 +2,7 @@
 use Prim.Native.Nat.{◌+◌}
 use mathlib.Core.Path.{sym, ap, subst, ◌∙◌}
 use native.Mathlib.Omega.{arith}
-use Rattle.file_rules.specs.declared.Item.TheVariants.{Got}
+use Rattle.file_rules.specs.Item.{Got}
 use Rattle.file_rules.specs.File.{length_of}
 use Rattle.file_rules.specs.Laws.{Known, ended, half_length, short_body, length_zero, unknown, length_wrong, event}
 use Rattle.file_rules.proofs.Lengths.{length_known, zero_unknown}
