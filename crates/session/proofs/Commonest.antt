@@ -9,7 +9,6 @@ use Rattle.std.proofs.lemmas.List.{get_or-drop, length-drop}
 use Rattle.rules.specs.ToldInNumbers.{ToldInNumbers}
 use Rattle.rules.proofs.Equal.{told_in_numbers}
 use Rattle.file_rules.specs.Numbers.{item_numbers}
-use Rattle.std.specs.Int.{w32, from_be_bytes}
 use Rattle.rules.specs.declared.Signal.TheVariants.{Tick}
 use Rattle.rules.specs.declared.Event.{Event}
 use Rattle.rules.specs.declared.Event.TheVariants.{Write, Signal as signal}

@@ -10,7 +10,7 @@ ghost use Rattle.file_rules.specs.Numbers.{item_numbers};
 
 use crate::common::ahead;
 use crate::records::record_at;
-use file_rules::{Fault, FileError};
+use file_rules::{Fault, FileError, Item};
 use rules::{Event, Signal};
 
 mod common;
@@ -19,7 +19,7 @@ mod records;
 
 // Any record, its length and its kind tested in 01's order. 01: "10 session file empty or its first byte not 01"; "Byte 01, then records":
 // at the start of the file the first record is meant.
-pub(crate) fn any_at(s: &[u8], at: usize) -> Result<Option<(Event, usize)>, FileError>
+pub(crate) fn any_at(s: &[u8], at: usize) -> Item
     ensures { item_of result ≡ item_at s.now at }
 {
     if at > 0 {
@@ -38,7 +38,7 @@ pub(crate) fn any_at(s: &[u8], at: usize) -> Result<Option<(Event, usize)>, File
 
 // The record at a place of a session file; place 0 is the start of the file, before its version byte. A tick or a write to 18h, as most
 // records of a session are, is told by its bytes alone, in fewer steps.
-pub fn item_at(s: &[u8], at: usize) -> Result<Option<(Event, usize)>, FileError>
+pub fn item_at(s: &[u8], at: usize) -> Item
     ensures { ToldInNumbers item_numbers (item_at s.now at) (item_of result) }
 {
     let rest = ahead(s, at);

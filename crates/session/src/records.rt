@@ -4,12 +4,11 @@ ghost use Rattle.file_rules.specs.Item.{item_of};
 ghost use Rattle.file_rules.specs.File.{record_at};
 
 use crate::fields::{byte_at, event_at, word_at};
-use file_rules::{Fault, FileError};
+use file_rules::{Fault, FileError, Item};
 use kinds::Kind;
-use rules::Event;
 
 // 01: "then per record 11, length 0 (12), 13, 12".
-pub(crate) fn record_at(s: &[u8], at: usize) -> Result<Option<(Event, usize)>, FileError>
+pub(crate) fn record_at(s: &[u8], at: usize) -> Item
     ensures { item_of result ≡ record_at s.now at }
 {
     if s.len() <= at {
