@@ -1,7 +1,6 @@
 pub mod Item
 pub mod File
 pub mod Bytes
-pub mod Kinds
 pub mod Row
 pub mod Laws
 pub mod Numbers
