@@ -33,6 +33,6 @@ pub returns : goal.returns
 unfolding lost_by
 returns c =
     let a = c.args in
-    let full = c.eq.ensures ∙ same_number _ _ in
-    let closed = c.eq-2.ensures ∙ same_number _ _ in
+    let full = rw same_number at c.eq.ensures in
+    let closed = rw same_number at c.eq-2.ensures in
     λ i. with_lost (record { full = a.c.lost.full || full i; closed = a.c.lost.closed || closed i }) a.c
