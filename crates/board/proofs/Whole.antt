@@ -3,9 +3,12 @@ use Prim.Native.Nat.{ℕ, ◌≤◌}
 use mathlib.Core.Path.{◌≡◌, refl, sym, ap, ◌∙◌}
 use mathlib.Core.Bool.{Bool, true, false, cond, true≢false}
 use mathlib.Core.List.{List}
-use borrow.Author.Tests.{ne_eqb}
 use lib.Dec.{eqb}
 use Rattle.rules.specs.Record.{State}
+use Rattle.std.specs.Prelude.{Err}
+use Rattle.rules.specs.declared.Refusal.{Refusal}
+use Rattle.rules.specs.Numbered.{refusal_number, answer_of}
+use Rattle.rules.proofs.Numbered.{not_done}
 use Rattle.rules.specs.Clocks.{fate_number}
 use Rattle.rules.specs.Size.{initialises, size_after}
 use Rattle.rules.specs.Interrupt.{condition, edge, request_after}
@@ -58,7 +61,7 @@ request_told s e a z p = go (initialises e) refl
 
 -- what is told of an outcome is told of the step that it equals
 as_told : (s : State) (e : Event) (r : Reply) (m : List ℕ) {o : Outcome} → o ≡ step s e
-    → r.answer ≡ o.answer → r.board ≡ o.state.board → m ≡ o.state.memory
+    → answer_of r.answer ≡ o.answer → r.board ≡ o.state.board → m ≡ o.state.memory
     → Stepped s.board s.memory e r m
 as_told s e r m h p q w = record {
   answer = p ∙ ap (λ (o : Outcome). o.answer) h;
@@ -67,17 +70,16 @@ as_told s e r m h p q w = record {
 }
 
 pub done_stepped : (s : State) (e : Event) (r : Reply) (m : List ℕ) → refusal s e ≡ 0
-    → r.answer ≡ record { refusal = 0; register = reading s.board e; moved = (played s e).moved; fate = fate_number (played s e).fate }
+    → answer_of r.answer ≡ record { refusal = 0; register = reading s.board e; moved = (played s e).moved; fate = fate_number (played s e).fate }
     → r.board ≡ with_request (request_after e s.board (board_before s e)) (board_before s e)
     → m ≡ (placed s e).memory
     → Stepped s.board s.memory e r m
 unfolding done
 done_stepped s e r m z p q w = as_told s e r m (sym (step_done s e z)) p q w
 
-pub refused_stepped : (s : State) (e : Event) (n : ℕ) (r : Reply) → n ≡ refusal s e → (n ≡ 0 → ⊥)
-    → r.answer ≡ record { refusal = n; register = 0; moved = 0; fate = 0 } → r.board ≡ s.board
-    → Stepped s.board s.memory e r s.memory
+pub refused_stepped : (s : State) (e : Event) (why : Refusal) → refusal_number why ≡ refusal s e
+    → Stepped s.board s.memory e (record { answer = Err why; board = s.board }) s.memory
 unfolding refused
-refused_stepped s e n r p z a b =
-    as_told s e r s.memory (sym (step_refused s e (ne_eqb _ _ (λ k. z (p ∙ k)))))
-    (a ∙ λ i. record { refusal = p i; register = 0; moved = 0; fate = 0 }) b refl
+refused_stepped s e why p =
+    as_told s e _ s.memory (sym (step_refused s e (ap (λ (n : ℕ). eqb n 0) (sym p) ∙ not_done why)))
+    (λ i. record { refusal = p i; register = 0; moved = 0; fate = 0 }) refl refl

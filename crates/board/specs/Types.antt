@@ -5,7 +5,7 @@ pub use Rattle.rules.specs.declared.Signal.TheVariants.{Tick as tick, Outside as
 pub use Rattle.rules.specs.declared.Signal.TheVariants.{Passed as passed, Failed as failed, Settled as settled}
 pub use Rattle.rules.specs.declared.Event.{Event}
 pub use Rattle.rules.specs.declared.Event.TheVariants.{PowerUp as power_up, Write as write, Read as read, Signal as signal}
-pub use Rattle.rules.specs.declared.Answer.{Answer}
+pub use Rattle.rules.specs.Types.{Answer}
 pub use Rattle.rules.specs.Rates.{Figures}
 pub use Rattle.rules.specs.declared.Options.{Options}
 pub use Rattle.rules.specs.declared.Size.{Size}

@@ -4,8 +4,8 @@
 
 ghost use Rattle.board.specs.Promises.{Stepped};
 
-use refusals::refusal;
-use rules::{Answer, Board, Event};
+use refusals::judge;
+use rules::{Board, Done, Event, Refusal};
 
 mod carry;
 mod steps;
@@ -13,17 +13,19 @@ mod steps;
 // What an event answers, and the record after it.
 #[derive(Clone, Copy)]
 pub struct Reply {
-    pub answer: Answer,
+    pub answer: Result<Done, Refusal>,
     pub board: Board,
 }
 
-// One event on a board record and its lent sample memory.
+// One event on a board record and its lent sample memory. 01: "On refusal .. the given record comes back and memory is unchanged."
 pub fn step(b: Board, memory: &mut [u32], e: Event) -> Reply
     ensures { Stepped b memory.old e result memory.new }
 {
-    let n = refusal(b, memory.len(), e);
-    if n == 0 {
-        return steps::done(b, memory, e);
+    match judge(b, memory.len(), e) {
+        Ok(()) => steps::done(b, memory, e),
+        Err(why) => Reply {
+            answer: Err(why),
+            board: b,
+        },
     }
-    steps::refused(n, b)
 }

@@ -14,7 +14,7 @@ use Rattle.rules.specs.Session.{outcomes, after}
 use Rattle.rules.proofs.Steps.{refusal_answered}
 use Rattle.rules.proofs.Refusals.{power_up_accepted}
 use Rattle.laws.proofs.Loads.{fate_none}
-use Rattle.file_rules.specs.declared.End.TheVariants.{File}
+use Rattle.file_rules.specs.Item.{File}
 use Rattle.file_rules.specs.File.{Session, session}
 use Rattle.file_rules.specs.Bytes.{bytes_of, records_of, file_of, Fits, AllFit, none, next}
 use Rattle.file_rules.specs.WritingLaws.{Reread}

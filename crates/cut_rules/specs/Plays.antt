@@ -15,7 +15,7 @@ use Rattle.rules.specs.Refusals.{refusal}
 use Rattle.rules.specs.Step.{Outcome, step}
 use Rattle.rules.specs.Session.{outcomes, after}
 use Rattle.laws.specs.Moved.{Coding, level_at}
-use Rattle.file_rules.specs.declared.End.TheVariants.{File}
+use Rattle.file_rules.specs.Item.{File}
 use Rattle.file_rules.specs.File.{session}
 use Rattle.file_rules.specs.Bytes.{bytes_of, records_of}
 use Rattle.cut_rules.specs.Cut.{Cut, sample, chosen, groups, numbers, eof_on_last, events, cut_refusal, cut_end, cut_output}

@@ -8,7 +8,8 @@ use lib.Dec.{eqb}
 use Rattle.rules.specs.declared.Core.{Core}
 use Rattle.rules.specs.declared.Event.{Event}
 use Rattle.rules.specs.declared.Event.TheVariants.{PowerUp as power_up, Write as write, Read as read, Signal as signal}
-use Rattle.rules.specs.Clocks.{Play, lost_to_full, closed}
+use Rattle.rules.specs.Clocks.{Play, closed}
+use Rattle.rules.specs.declared.Fate.TheVariants.{LostToFull as lost_to_full}
 use Rattle.rules.specs.Writes.{write_data, on_write}
 use Rattle.rules.specs.Play.{play}
 

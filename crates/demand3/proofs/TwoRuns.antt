@@ -16,7 +16,9 @@ use Rattle.rules.specs.declared.Board.{Board}
 use Rattle.rules.specs.declared.Event.{Event}
 use Rattle.rules.specs.declared.Event.TheVariants.{PowerUp as power_up, Write as write, Read as read, Signal as signal}
 use Rattle.rules.specs.Record.{State, values, stored, sound_core, sound}
-use Rattle.rules.specs.Clocks.{Play, Fate, lost_to_full, fate_number}
+use Rattle.rules.specs.Clocks.{Play, fate_number}
+use Rattle.rules.specs.declared.Fate.{Fate}
+use Rattle.rules.specs.declared.Fate.TheVariants.{LostToFull as lost_to_full}
 use Rattle.rules.specs.Flags.{is_full}
 use Rattle.rules.specs.Play.{play}
 use Rattle.rules.specs.Place.{place}

@@ -8,8 +8,8 @@ use borrow.Author.Tests.{le-leb, lt-leb, lt-ltb, le-ltb, leb-true, leb-false, lt
 use lib.Dec.{leb, ltb, eqb}
 use lib.ListN.{length}
 use Rattle.rules.proofs.Choice.{cases, cond_true, cond_false}
-use Rattle.file_rules.specs.declared.Item.{Item}
-use Rattle.file_rules.specs.declared.Item.TheVariants.{Got, Over}
+use Rattle.file_rules.specs.Item.{Item}
+use Rattle.file_rules.specs.Item.{Got, Over}
 use Rattle.file_rules.specs.File.{byte_at, word_at, length_of, whole_record, record_at, item_at}
 use Rattle.file_rules.specs.Laws.{Known, Whole, Record, ended, half_length, short_body, length_zero, unknown, length_wrong, event}
 use Rattle.file_rules.specs.Laws.{ItemGiven, bad_version, first, later, Item-exactly, Item-grows}

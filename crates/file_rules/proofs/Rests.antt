@@ -6,9 +6,9 @@ use mathlib.Core.List.{List, [], ◌∷◌}
 use native.Mathlib.Omega.{arith}
 use lib.ListN.{length}
 use Rattle.rules.specs.declared.Event.{Event}
-use Rattle.file_rules.specs.declared.End.{End}
-use Rattle.file_rules.specs.declared.Item.{Item}
-use Rattle.file_rules.specs.declared.Item.TheVariants.{Got, Over}
+use Rattle.file_rules.specs.Item.{End}
+use Rattle.file_rules.specs.Item.{Item}
+use Rattle.file_rules.specs.Item.{Got, Over}
 use Rattle.file_rules.specs.File.{item_at, Session, on_item, from, session, Rest}
 use Rattle.file_rules.proofs.Given.{item_grows}
 

@@ -12,9 +12,9 @@ use Rattle.rules.specs.declared.Settings.{Settings}
 use Rattle.rules.specs.declared.Event.TheVariants.{PowerUp as power_up, Write as write, Read as read, Signal as signal}
 use Rattle.file_rules.specs.declared.Fault.{Fault}
 use Rattle.file_rules.specs.declared.Fault.TheVariants.{Version}
-use Rattle.file_rules.specs.declared.End.TheVariants.{File, Refused}
-use Rattle.file_rules.specs.declared.Item.{Item}
-use Rattle.file_rules.specs.declared.Item.TheVariants.{Got, Over}
+use Rattle.file_rules.specs.Item.{File, Refused}
+use Rattle.file_rules.specs.Item.{Item}
+use Rattle.file_rules.specs.Item.{Got, Over}
 use Rattle.file_rules.specs.File.{byte_at, word_at, quad_at, settings_at, signal_of, event_of, event_at, record_at, item_at, Session, on_item, from, session}
 use Rattle.file_rules.specs.Bytes.{signal_kind, two, four, bytes_of, records_of, file_of, Fits, AllFit, none, next}
 use Rattle.file_rules.specs.Laws.{Known, Record, ended, half_length, short_body, length_zero, unknown, length_wrong, event, Reached, opened, passed, File-written}

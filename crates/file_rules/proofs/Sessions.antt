@@ -4,10 +4,10 @@ use mathlib.Core.Path.{◌≡◌, subst}
 use mathlib.Core.List.{List}
 use native.Mathlib.Omega.{arith}
 use lib.ListN.{length}
-use Rattle.file_rules.specs.declared.End.{End}
-use Rattle.file_rules.specs.declared.End.TheVariants.{File, Refused}
-use Rattle.file_rules.specs.declared.Item.{Item}
-use Rattle.file_rules.specs.declared.Item.TheVariants.{Got, Over}
+use Rattle.file_rules.specs.Item.{End}
+use Rattle.file_rules.specs.Item.{File, Refused}
+use Rattle.file_rules.specs.Item.{Item}
+use Rattle.file_rules.specs.Item.{Got, Over}
 use Rattle.file_rules.specs.File.{item_at, on_item, from, session}
 use Rattle.file_rules.specs.Laws.{Record, ended, half_length, short_body, length_zero, unknown, length_wrong, event, ItemGiven, bad_version, first, later, Session-refused}
 use Rattle.file_rules.proofs.Given.{record_given, item_given, given_item}

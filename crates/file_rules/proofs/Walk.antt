@@ -8,11 +8,11 @@ use native.Mathlib.Omega.{arith}
 use borrow.Author.Tests.{eq-eqb, eqb-true, eqb-false}
 use lib.Dec.{eqb}
 use lib.ListN.{length}
-use Rattle.file_rules.specs.declared.End.{End}
-use Rattle.file_rules.specs.declared.End.TheVariants.{Refused}
+use Rattle.file_rules.specs.Item.{End}
+use Rattle.file_rules.specs.Item.{Refused}
 use Rattle.file_rules.specs.declared.Fault.TheVariants.{Version}
-use Rattle.file_rules.specs.declared.Item.{Item}
-use Rattle.file_rules.specs.declared.Item.TheVariants.{Over}
+use Rattle.file_rules.specs.Item.{Item}
+use Rattle.file_rules.specs.Item.{Over}
 use Rattle.file_rules.specs.File.{fault_number, Verdict, verdict, byte_at, record_at, item_at, Session, on_item, from, session, Rest}
 use Rattle.file_rules.specs.Laws.{Record, ended, half_length, short_body, length_zero, unknown, length_wrong, event, bad_version}
 use Rattle.file_rules.specs.Laws.{Reached, opened, passed, FileGiven, not_opened, in_length, in_body, zero_length, unknown_kind, wrong_length, done, File-exactly}

@@ -10,9 +10,9 @@ use Rattle.rules.specs.declared.Event.{Event}
 use Rattle.rules.specs.declared.Event.TheVariants.{PowerUp as power_up, Write as write, Read as read, Signal as signal}
 use Rattle.rules.specs.declared.Signal.TheVariants.{Tick as tick, Outside as outside, Trigger as trigger}
 use Rattle.rules.specs.declared.Signal.TheVariants.{Passed as passed, Failed as failed, Settled as settled}
-use Rattle.file_rules.specs.declared.End.{End}
-use Rattle.file_rules.specs.declared.End.TheVariants.{File, Refused}
-use Rattle.file_rules.specs.declared.Item.TheVariants.{Got, Over}
+use Rattle.file_rules.specs.Item.{End}
+use Rattle.file_rules.specs.Item.{File, Refused}
+use Rattle.file_rules.specs.Item.{Got, Over}
 use Rattle.file_rules.specs.File.{byte_at, word_at, signal_of, event_of, event_at, item_at, on_item, from, session}
 use Rattle.file_rules.specs.Bytes.{kind_of, fields_of, bytes_of, records_of, file_of, Fits, AllFit, none, next}
 use Rattle.file_rules.specs.Laws.{Known, ended, event, Bytes-read, File-read, Refused-events, Row-read}

@@ -12,10 +12,10 @@ use Rattle.rules.specs.declared.Signal.TheVariants.{Tick as tick, Outside as out
 use Rattle.rules.specs.declared.Signal.TheVariants.{Passed as passed, Failed as failed, Settled as settled}
 use Rattle.file_rules.specs.declared.Fault.{Fault}
 use Rattle.file_rules.specs.declared.Fault.TheVariants.{Version as version, Cut as cut, Length as wrong_length, Kind as unknown_kind}
-use Rattle.file_rules.specs.declared.End.{End}
-use Rattle.file_rules.specs.declared.End.TheVariants.{File as file_end, Refused as refused_at}
-use Rattle.file_rules.specs.declared.Item.{Item}
-use Rattle.file_rules.specs.declared.Item.TheVariants.{Got as got, Over as over}
+use Rattle.file_rules.specs.Item.{End}
+use Rattle.file_rules.specs.Item.{File as file_end, Refused as refused_at}
+use Rattle.file_rules.specs.Item.{Item}
+use Rattle.file_rules.specs.Item.{Got as got, Over as over}
 
 -- ---- Numbers
 

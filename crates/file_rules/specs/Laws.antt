@@ -14,9 +14,9 @@ use Rattle.rules.specs.declared.Event.TheVariants.{PowerUp, Write, Read, Signal}
 use Rattle.rules.specs.declared.Signal.TheVariants.{Tick, Outside, Trigger, Passed, Failed, Settled}
 use Rattle.file_rules.specs.declared.Fault.{Fault}
 use Rattle.file_rules.specs.declared.Fault.TheVariants.{Version, Cut, Length, Kind}
-use Rattle.file_rules.specs.declared.End.TheVariants.{File, Refused}
-use Rattle.file_rules.specs.declared.Item.{Item}
-use Rattle.file_rules.specs.declared.Item.TheVariants.{Got, Over}
+use Rattle.file_rules.specs.Item.{File, Refused}
+use Rattle.file_rules.specs.Item.{Item}
+use Rattle.file_rules.specs.Item.{Got, Over}
 use Rattle.file_rules.specs.Row.{row_of, event_of_row}
 use Rattle.file_rules.specs.Bytes.{bytes_of, file_of, Fits, AllFit}
 use Rattle.file_rules.specs.File.{verdict, byte_at, word_at, event_at, item_at, Session, session}

@@ -1,3 +1,4 @@
+pub mod Item
 pub mod File
 pub mod Bytes
 pub mod Row

@@ -2,8 +2,8 @@
 --   item_numbers i       those of an item
 --   Items-in-numbers    an example of each case
 use Rattle.std.specs.Prelude.{ℕ, ◌≡◌, List, [], ◌∷◌}
-use Rattle.file_rules.specs.declared.Item.{Item}
-use Rattle.file_rules.specs.declared.Item.TheVariants.{Got as got, Over as over}
+use Rattle.file_rules.specs.Item.{Item}
+use Rattle.file_rules.specs.Item.{Got as got, Over as over}
 use Rattle.file_rules.specs.File.{verdict, item_at}
 use Rattle.file_rules.specs.Row.{row_of}
 use Rattle.file_rules.specs.Laws.{every_kind}

@@ -11,7 +11,7 @@
 use Rattle.std.specs.Prelude.{ℕ, ◌+◌, ◌*◌, ◌≤◌, ◌<◌, ◌≡◌, ◌≢◌, ◌↔◌, List, [], ◌∷◌, ◌++◌, length, take, drop, replicate}
 use Rattle.std.proofs.Math.Seq.{slice}
 use Rattle.rules.specs.declared.Event.{Event}
-use Rattle.file_rules.specs.declared.End.TheVariants.{File}
+use Rattle.file_rules.specs.Item.{File}
 use Rattle.file_rules.specs.File.{byte_at, session}
 use Rattle.file_rules.specs.Row.{row_of, field, event_of_row}
 use Rattle.file_rules.specs.Bytes.{file_of, Fits, AllFit}

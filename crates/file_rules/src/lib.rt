@@ -4,25 +4,22 @@
 
 use rules::Event;
 
-// Why a file is refused; `fault_number` in specs/File.antt has 01's numbers.
-#[derive(Clone, Copy)]
+// Why a file is refused; `as u32` is 01's number of it, as `fault_number` in specs/File.antt says.
+#[derive(Clone, Copy, Debug, PartialEq, Eq)]
 pub enum Fault {
-    Version,
-    Cut,
-    Length,
-    Kind,
+    Version = 10,
+    Cut = 11,
+    Length = 12,
+    Kind = 13,
 }
 
-// How a file ends: with its last byte, or refused at the place where a record starts.
-#[derive(Clone, Copy)]
-pub enum End {
-    File,
-    Refused(Fault, usize),
+// A file that is refused: why, and the place where the record starts.
+#[derive(Clone, Copy, Debug, PartialEq, Eq)]
+pub struct FileError {
+    pub fault: Fault,
+    pub place: usize,
 }
 
-// What stands at a place: an event, with the place of the next record; or the end.
-#[derive(Clone, Copy)]
-pub enum Item {
-    Got(Event, usize),
-    Over(End),
-}
+// What stands at a place: an event, with the place of the next record; nothing, where the file ends with its last byte; or why it is
+// refused.
+pub type Item = Result<Option<(Event, usize)>, FileError>;

@@ -15,8 +15,8 @@ use Rattle.rules.specs.declared.Event.TheVariants.{PowerUp, Write, Read, Signal}
 use Rattle.rules.specs.declared.Signal.TheVariants.{Tick, Outside, Trigger, Passed, Failed, Settled}
 use Rattle.rules.proofs.Choice.{and_both}
 use Rattle.file_rules.specs.declared.Fault.TheVariants.{Version, Cut, Kind}
-use Rattle.file_rules.specs.declared.End.TheVariants.{Refused}
-use Rattle.file_rules.specs.declared.Item.TheVariants.{Over}
+use Rattle.file_rules.specs.Item.{Refused}
+use Rattle.file_rules.specs.Item.{Over}
 use Rattle.file_rules.specs.File.{fault_number, byte_at, length_of, signal_of, event_of, event_at, whole_record, record_at, item_at, from, session}
 use Rattle.file_rules.specs.Bytes.{records_of, file_of, Fits, AllFit, none, next}
 use Rattle.file_rules.specs.Row.{row_of, field}

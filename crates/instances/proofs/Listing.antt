@@ -7,7 +7,7 @@ use mathlib.Core.List.{List, [], ◌∷◌, ◌++◌}
 use native.Mathlib.Omega.{arith}
 use lib.Dec.{lit<, lit≤}
 use lib.ListN.{length, get_or, replicate, length-replicate}
-use Rattle.rules.specs.declared.Answer.{Answer}
+use Rattle.rules.specs.Types.{Answer}
 use Rattle.rules.specs.declared.Event.{Event}
 use Rattle.rules.specs.declared.Event.TheVariants.{PowerUp, Write, Read}
 use Rattle.rules.specs.Record.{start}
@@ -15,7 +15,7 @@ use Rattle.rules.specs.Session.{outcomes, after}
 use Rattle.rules.proofs.Open.{rules_open}
 use Rattle.rules.proofs.Bench.{alike, alike_equal}
 use Rattle.file_rules.specs.declared.Fault.TheVariants.{Version, Kind}
-use Rattle.file_rules.specs.declared.End.TheVariants.{Refused}
+use Rattle.file_rules.specs.Item.{Refused}
 use Rattle.file_rules.specs.Bytes.{records_of, file_of, AllFit, none, next}
 use Rattle.file_rules.specs.File.{fault_number, byte_at, length_of, signal_of, event_of, event_at, whole_record, record_at, item_at, Session, on_item, from, session}
 use Rattle.file_rules.specs.Laws.{bad_version}

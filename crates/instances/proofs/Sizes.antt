@@ -14,7 +14,7 @@ use Rattle.rules.specs.Session.{after}
 use Rattle.rules.specs.Bench.{bor, load, bor?, clk}
 use Rattle.rules.proofs.Open.{rules_open}
 use Rattle.file_rules.specs.declared.Fault.TheVariants.{Version, Cut, Length, Kind}
-use Rattle.file_rules.specs.declared.End.TheVariants.{File, Refused}
+use Rattle.file_rules.specs.Item.{File, Refused}
 use Rattle.file_rules.specs.Bytes.{records_of, file_of, AllFit, none, next}
 use Rattle.file_rules.specs.File.{fault_number, length_of, signal_of, event_of, event_at, whole_record, record_at, item_at, from, Session, session, verdict}
 use Rattle.file_rules.proofs.Written.{file_read}

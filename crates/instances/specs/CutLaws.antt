@@ -5,7 +5,7 @@ use Rattle.std.proofs.Math.Seq.{slice}
 use Rattle.rules.specs.declared.Event.{Event}
 use Rattle.rules.specs.declared.Event.TheVariants.{Read as read, Write as write}
 use Rattle.laws.specs.Moved.{Among}
-use Rattle.file_rules.specs.declared.End.TheVariants.{File}
+use Rattle.file_rules.specs.Item.{File}
 use Rattle.file_rules.specs.File.{session}
 use Rattle.file_rules.specs.Bytes.{file_of}
 use Rattle.cut_rules.specs.Cut.{Cut, chosen, groups, numbers, eof_on_last, events, cut_refusal, cut_end, cut_output}

@@ -9,7 +9,7 @@ use Rattle.rules.specs.Record.{State, state_of, stored, start}
 use Rattle.rules.specs.Step.{Outcome}
 use Rattle.rules.specs.Session.{outcomes, after}
 use Rattle.laws.specs.Moved.{level_at}
-use Rattle.file_rules.specs.declared.End.TheVariants.{File}
+use Rattle.file_rules.specs.Item.{File}
 use Rattle.file_rules.specs.File.{session}
 use Rattle.cut_rules.specs.Cut.{Cut, events}
 use Rattle.cut_rules.specs.Plays.{Ordered, Equipped, StoredInOrder, powered, many_ticks, shipped, cut_bytes, OnItsOutput}

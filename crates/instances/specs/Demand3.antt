@@ -3,7 +3,7 @@
 --   scene_of s          what the order names of a state
 --   answers_of f s es   one number of each event's answer
 use Rattle.std.specs.Prelude.{ℕ, ◌≡◌, ◌≢◌, Bool, true, false, List, [], ◌∷◌, ◌++◌, map, replicate, take}
-use Rattle.rules.specs.declared.Answer.{Answer}
+use Rattle.rules.specs.Types.{Answer}
 use Rattle.rules.specs.declared.Burst.{Burst}
 use Rattle.rules.specs.declared.Core.{Core}
 use Rattle.rules.specs.declared.Event.{Event}

@@ -8,8 +8,8 @@ use Rattle.rules.specs.declared.Event.{Event}
 use Rattle.rules.specs.declared.Event.TheVariants.{PowerUp, Write, Read, Signal}
 use Rattle.rules.specs.declared.Signal.TheVariants.{Tick, Outside, Trigger, Passed, Failed, Settled}
 use Rattle.file_rules.specs.declared.Fault.TheVariants.{Version, Cut, Length, Kind}
-use Rattle.file_rules.specs.declared.End.TheVariants.{File, Refused}
-use Rattle.file_rules.specs.declared.Item.TheVariants.{Got, Over}
+use Rattle.file_rules.specs.Item.{File, Refused}
+use Rattle.file_rules.specs.Item.{Got, Over}
 use Rattle.file_rules.specs.Bytes.{file_of, Fits}
 use Rattle.file_rules.specs.File.{verdict, byte_at, item_at, session}
 use Rattle.file_rules.specs.Row.{row_of, event_of_row}

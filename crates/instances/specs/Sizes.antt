@@ -5,7 +5,7 @@ use Rattle.rules.specs.Record.{stored, start}
 use Rattle.rules.specs.Session.{after}
 use Rattle.rules.specs.Bench.{bor, load, bor?, clk}
 use Rattle.file_rules.specs.declared.Fault.TheVariants.{Cut}
-use Rattle.file_rules.specs.declared.End.TheVariants.{File, Refused}
+use Rattle.file_rules.specs.Item.{File, Refused}
 use Rattle.file_rules.specs.Bytes.{file_of}
 use Rattle.file_rules.specs.File.{session}
 use Rattle.demand3.specs.Demand3.{NothingLost, Agree}

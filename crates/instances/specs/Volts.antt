@@ -12,7 +12,7 @@ use Rattle.rules.specs.Step.{Outcome}
 use Rattle.rules.specs.Session.{outcomes, after}
 use Rattle.rules.specs.Bench.{mask, bor, load, clk}
 use Rattle.rules.specs.Examples.{up as power_up}
-use Rattle.file_rules.specs.declared.End.TheVariants.{File}
+use Rattle.file_rules.specs.Item.{File}
 use Rattle.file_rules.specs.File.{session, verdict}
 use Rattle.volt_rules.specs.declared.Extremes.{Extremes}
 use Rattle.volt_rules.specs.Volts.{volts_of, zero_volts}

@@ -1,56 +1,104 @@
-// The kinds of a session file's records: how long each is, the signal that it says, and back; an event as a row that begins with its
-// kind; and the numbers of a file's faults.
+// The kinds of a session file's records: the kind that a number says, and back; how long each is, and which an event has; an event as a
+// row that begins with its kind; and the numbers of a file's faults.
 // Every call takes every input, and tells what a rule says (`Told` of rules/specs/Told.antt).
 #![tactic(auto)]
 
+ghost use Rattle.std.specs.Prelude.{◌≡◌};
 ghost use Rattle.rules.specs.Told.{Told};
-ghost use Rattle.file_rules.specs.Bytes.{signal_kind};
+ghost use Rattle.file_rules.specs.Bytes.{kind_of};
 ghost use Rattle.file_rules.specs.File.{length_of, signal_of, fault_number};
 ghost use Rattle.file_rules.specs.Row.{row_of};
+ghost use Rattle.kinds.specs.Numbers.{kind_number, Named};
 
 use file_rules::Fault;
 use rules::{Event, Signal};
 
-// 01: "Kinds and lengths": how long a record of a kind is, 0 where there is no such kind.
+// 01: "1 power-up ..; 2 write ..; 3 read ..; 4 tick, 5 outside clock, 6 trigger, 7 calibration passed, 8 failed, 9 settled"
+#[derive(Clone, Copy, Debug, PartialEq, Eq)]
+pub enum Kind {
+    PowerUp,
+    Write,
+    Read,
+    Signal(Signal),
+}
+
+// 01: "13 unknown record kind": a number that no kind has.
+#[derive(Clone, Copy, Debug, PartialEq, Eq)]
+pub struct UnknownKind;
+
 #[tactic(auto, unfolding(file_rules::specs::File::length_of))]
-pub fn length_of(kind: u32) -> u32
-    ensures { Told (length_of kind) result }
-{
-    match kind {
-        1 => 7,
-        2 => 6,
-        3 => 2,
-        4..=9 => 1,
-        _ => 0,
+impl TryFrom<u32> for Kind {
+    type Error = UnknownKind;
+
+    ghost try_from_gives = { Named };
+
+    fn try_from(number: u32) -> Result<Kind, UnknownKind> {
+        match number {
+            1 => Ok(Kind::PowerUp),
+            2 => Ok(Kind::Write),
+            3 => Ok(Kind::Read),
+            4 => Ok(Kind::Signal(Signal::Tick)),
+            5 => Ok(Kind::Signal(Signal::Outside)),
+            6 => Ok(Kind::Signal(Signal::Trigger)),
+            7 => Ok(Kind::Signal(Signal::Passed)),
+            8 => Ok(Kind::Signal(Signal::Failed)),
+            9 => Ok(Kind::Signal(Signal::Settled)),
+            _ => Err(UnknownKind),
+        }
     }
 }
 
-// 01: "4 tick, 5 outside clock, 6 trigger, 7 calibration passed, 8 failed, 9 settled"; any other kind counts as 9.
-#[tactic(auto, unfolding(file_rules::specs::File::signal_of))]
-pub fn signal_of(kind: u32) -> Signal
-    ensures { Told (signal_of kind) result }
+// And back.
+impl From<Kind> for u32 {
+    ghost from_gives = { λ k n. n ≡ kind_number k };
+
+    fn from(kind: Kind) -> u32 {
+        match kind {
+            Kind::PowerUp => 1,
+            Kind::Write => 2,
+            Kind::Read => 3,
+            Kind::Signal(s) => s as u32,
+        }
+    }
+}
+
+// The kind of an event's record.
+impl From<Event> for Kind {
+    ghost from_gives = { λ e k. kind_number k ≡ kind_of e };
+
+    fn from(e: Event) -> Kind {
+        match e {
+            Event::PowerUp(_) => Kind::PowerUp,
+            Event::Write { .. } => Kind::Write,
+            Event::Read { .. } => Kind::Read,
+            Event::Signal(s) => Kind::Signal(s),
+        }
+    }
+}
+
+impl Kind {
+    // 01: "Kinds and lengths": how long a record of this kind is.
+    #[tactic(auto, unfolding(file_rules::specs::File::length_of))]
+    pub fn length(self) -> u32
+        ensures { Told (length_of (kind_number self)) result }
+    {
+        match self {
+            Kind::PowerUp => 7,
+            Kind::Write => 6,
+            Kind::Read => 2,
+            Kind::Signal(_) => 1,
+        }
+    }
+}
+
+// The signal that a number says; one that says none counts as 9.
+#[tactic(auto, unfolding(file_rules::specs::File::signal_of, file_rules::specs::File::length_of))]
+pub fn signal_of(number: u32) -> Signal
+    ensures { Told (signal_of number) result }
 {
-    match kind {
-        4 => Signal::Tick,
-        5 => Signal::Outside,
-        6 => Signal::Trigger,
-        7 => Signal::Passed,
-        8 => Signal::Failed,
+    match Kind::try_from(number) {
+        Ok(Kind::Signal(s)) => s,
         _ => Signal::Settled,
-    }
-}
-
-// And back: the kind of a signal.
-pub fn kind_of(s: Signal) -> u32
-    ensures { Told (signal_kind s) result }
-{
-    match s {
-        Signal::Tick => 4,
-        Signal::Outside => 5,
-        Signal::Trigger => 6,
-        Signal::Passed => 7,
-        Signal::Failed => 8,
-        Signal::Settled => 9,
     }
 }
 
@@ -58,11 +106,12 @@ pub fn kind_of(s: Signal) -> u32
 pub fn row_of(e: Event) -> [u32; 6]
     ensures { Told (row_of e) result }
 {
+    let kind = u32::from(Kind::from(e));
     match e {
-        Event::PowerUp(x) => [1, x.fitted, x.range, x.filter, x.kit, x.firmware],
-        Event::Write { offset, value } => [2, offset, value, 0, 0, 0],
-        Event::Read { offset } => [3, offset, 0, 0, 0, 0],
-        Event::Signal(s) => [kind_of(s), 0, 0, 0, 0, 0],
+        Event::PowerUp(x) => [kind, x.fitted, x.range, x.filter, x.kit, x.firmware],
+        Event::Write { offset, value } => [kind, offset, value, 0, 0, 0],
+        Event::Read { offset } => [kind, offset, 0, 0, 0, 0],
+        Event::Signal(_) => [kind, 0, 0, 0, 0, 0],
     }
 }
 
@@ -71,10 +120,5 @@ pub fn row_of(e: Event) -> [u32; 6]
 pub fn fault_number(why: Fault) -> u32
     ensures { Told (fault_number why) result }
 {
-    match why {
-        Fault::Version => 10,
-        Fault::Cut => 11,
-        Fault::Length => 12,
-        Fault::Kind => 13,
-    }
+    why as u32
 }

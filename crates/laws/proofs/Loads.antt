@@ -13,7 +13,9 @@ use Rattle.laws.specs.Types.{Core, Lost, Event, power_up, write, read, signal, S
 use Rattle.rules.specs.Bits.{bit}
 use Rattle.rules.specs.Record.{State, active_size, depth, stored, value_span}
 use Rattle.rules.specs.Parts.{with_lost}
-use Rattle.rules.specs.Clocks.{Op, keep, store, Fate, none, was_stored, lost_to_full, lost_to_closed, fate_number, Play, closed, moving, moves, clock, tick_accepted, clock_accepted, on_tick, on_outside, on_trigger}
+use Rattle.rules.specs.Clocks.{Op, keep, store, fate_number, Play, closed, moving, moves, clock, tick_accepted, clock_accepted, on_tick, on_outside, on_trigger}
+use Rattle.rules.specs.declared.Fate.{Fate}
+use Rattle.rules.specs.declared.Fate.TheVariants.{NoLoad as none, Stored as was_stored, LostToFull as lost_to_full, LostToClosed as lost_to_closed}
 use Rattle.rules.specs.Flags.{is_full}
 use Rattle.rules.specs.Writes.{write_control, write_mask, write_rate, write_adjust, buffer_of, tried, write_buffer, write_data, on_write}
 use Rattle.rules.specs.Play.{calibration_ends, settles, on_signal, play}

@@ -7,7 +7,8 @@ use native.Mathlib.Omega.{arith}
 use Rattle.laws.specs.Types.{Core, Event, write, signal, outside}
 use Rattle.rules.specs.Bits.{bit}
 use Rattle.rules.specs.Record.{State, depth, stored}
-use Rattle.rules.specs.Clocks.{clear, none, fate_number, Play, only, moving, moves, clock, clock_accepted, on_outside}
+use Rattle.rules.specs.Clocks.{clear, fate_number, Play, only, moving, moves, clock, clock_accepted, on_outside}
+use Rattle.rules.specs.declared.Fate.TheVariants.{NoLoad as none}
 use Rattle.rules.specs.Writes.{load_kept, load_asked, buffer_of, tried, write_buffer, on_write}
 use Rattle.rules.specs.Play.{on_signal, play}
 use Rattle.rules.specs.Place.{Place, place, place_of}

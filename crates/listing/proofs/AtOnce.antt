@@ -15,7 +15,7 @@ use Rattle.rules.specs.declared.Core.{Core}
 use Rattle.rules.specs.declared.Board.{Board}
 use Rattle.rules.specs.Record.{State, value_span, depth_of, depth, active_size, stored}
 use Rattle.rules.specs.Clocks.{Play, store, fate_number, closed, tick_accepted, clock, on_tick}
-use Rattle.rules.specs.Clocks.{was_stored}
+use Rattle.rules.specs.declared.Fate.TheVariants.{Stored as was_stored}
 use Rattle.rules.specs.Flags.{is_full}
 use Rattle.rules.specs.Writes.{write_data, on_write}
 use Rattle.rules.specs.Play.{on_signal, play}
@@ -37,8 +37,8 @@ use Rattle.moves.proofs.Tested.{load_whole}
 use Rattle.board.specs.Promises.{Stepped}
 use Rattle.board.proofs.Standing.{stands_ready}
 use Rattle.board.proofs.Whole.{done_stepped}
-use Rattle.run.specs.declared.Ahead.{Ahead}
-use Rattle.run.specs.declared.Ahead.TheVariants.{Found, Over}
+use Rattle.run.specs.Ahead.{Ahead}
+use Rattle.run.specs.Ahead.{Found, Over}
 use Rattle.listing.specs.declared.shortcuts.Common.{Common}
 use Rattle.listing.specs.Shortcuts.{common_event, uncommon, common_of, takes, ticks, quick, board_with}
 

@@ -8,9 +8,9 @@ use Rattle.rules.specs.declared.Event.{Event}
 use Rattle.rules.specs.Record.{State}
 use Rattle.rules.specs.Step.{step}
 use Rattle.rules.specs.Session.{outcomes, after}
-use Rattle.file_rules.specs.declared.End.{End}
-use Rattle.file_rules.specs.declared.End.TheVariants.{File, Refused}
-use Rattle.file_rules.specs.declared.Item.TheVariants.{Over}
+use Rattle.file_rules.specs.Item.{End}
+use Rattle.file_rules.specs.Item.{File, Refused}
+use Rattle.file_rules.specs.Item.{Over}
 use Rattle.file_rules.specs.File.{Session, verdict}
 use Rattle.file_rules.proofs.Sessions.{PlaceInFile}
 use Rattle.listing_rules.specs.Text.{line}

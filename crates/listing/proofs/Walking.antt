@@ -13,7 +13,7 @@ use Rattle.rules.specs.Step.{step}
 use Rattle.rules.specs.Session.{after}
 use Rattle.laws.specs.Lasting.{InRun}
 use Rattle.laws.proofs.Lasting.{in_run_kept}
-use Rattle.file_rules.specs.declared.End.{End}
+use Rattle.file_rules.specs.Item.{End}
 use Rattle.file_rules.specs.File.{session}
 use Rattle.file_rules.proofs.Given.{item_grows}
 use Rattle.board.specs.declared.Reply.{Reply}
@@ -21,7 +21,7 @@ use Rattle.board.specs.Promises.{Stepped}
 use Rattle.listing_rules.specs.Text.{line}
 use Rattle.listing_rules.proofs.Lengths.{line_length}
 use Rattle.run.specs.declared.Cursor.{Cursor}
-use Rattle.run.specs.declared.Ahead.TheVariants.{Found, Over}
+use Rattle.run.specs.Ahead.{Found, Over}
 use Rattle.run.specs.Run.{found}
 use Rattle.run.specs.Way.{Passes}
 use Rattle.run.proofs.Ways.{event_stood, way_start, way_on, way_over}

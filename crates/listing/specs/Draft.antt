@@ -13,8 +13,8 @@ use Rattle.file_rules.specs.File.{Session}
 use Rattle.board.specs.Promises.{Stepped}
 use Rattle.listing_rules.specs.Text.{line}
 use Rattle.run.specs.declared.Cursor.{Cursor}
-use Rattle.run.specs.declared.Ahead.{Ahead}
-use Rattle.run.specs.declared.Ahead.TheVariants.{Found}
+use Rattle.run.specs.Ahead.{Ahead}
+use Rattle.run.specs.Ahead.{Found}
 use Rattle.run.specs.Run.{found}
 use Rattle.run.specs.Way.{Way}
 use Rattle.file_rules.specs.Pieces.{Piece}

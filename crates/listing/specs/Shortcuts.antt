@@ -23,8 +23,8 @@ pub use Rattle.laws.specs.Lasting.{InRun}
 use Rattle.moves.specs.Promises.{with_levels}
 use Rattle.board.specs.declared.Reply.{Reply}
 use Rattle.run.specs.declared.Cursor.{Cursor}
-use Rattle.run.specs.declared.Ahead.{Ahead}
-use Rattle.run.specs.declared.Ahead.TheVariants.{Found, Over}
+use Rattle.run.specs.Ahead.{Ahead}
+use Rattle.run.specs.Ahead.{Found, Over}
 use Rattle.listing.specs.declared.shortcuts.Common.{Common}
 use Rattle.listing.specs.declared.shortcuts.Change.{Change}
 

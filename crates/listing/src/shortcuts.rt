@@ -7,7 +7,7 @@ ghost use Rattle.record.specs.Capped.{capped_board};
 ghost use Rattle.board.specs.Promises.{Stepped};
 ghost use Rattle.listing.specs.Shortcuts.{common_event, uncommon, common_signal, common_of, takes, ticks, quick, board_with, reply_of, InRun};
 ghost use Rattle.rules.specs.Record.{depth, state_of};
-ghost use Rattle.run.specs.declared.Ahead.TheVariants.{Found};
+ghost use Rattle.run.specs.Ahead.{Found};
 
 use channels::serve;
 use moves::{Frame, deal, load};

@@ -10,7 +10,7 @@ use Rattle.rules.specs.Session.{outcomes, after}
 use Rattle.rules.proofs.Choice.{cond_true, cond_false}
 use Rattle.file_rules.specs.declared.Fault.TheVariants.{Version, Cut, Length, Kind}
 use Rattle.file_rules.specs.declared.Fault.{Fault}
-use Rattle.file_rules.specs.declared.End.TheVariants.{File, Refused}
+use Rattle.file_rules.specs.Item.{File, Refused}
 use Rattle.file_rules.specs.Bytes.{file_of}
 use Rattle.file_rules.specs.File.{fault_number, Session, session}
 use Rattle.file_rules.proofs.Written.{file_read, refused_events}

@@ -6,8 +6,8 @@ use Rattle.rules.specs.declared.Event.{Event}
 use Rattle.rules.specs.Record.{start}
 use Rattle.rules.specs.Session.{after}
 use Rattle.file_rules.specs.declared.Fault.{Fault}
-use Rattle.file_rules.specs.declared.End.TheVariants.{Refused}
-use Rattle.file_rules.specs.declared.Item.TheVariants.{Over}
+use Rattle.file_rules.specs.Item.{Refused}
+use Rattle.file_rules.specs.Item.{Over}
 use Rattle.file_rules.specs.Bytes.{file_of, AllFit}
 use Rattle.file_rules.specs.File.{fault_number, item_at}
 use Rattle.basics.specs.Ascii.{ascii}

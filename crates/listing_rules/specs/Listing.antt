@@ -6,7 +6,7 @@ use Rattle.std.specs.Prelude.{ℕ, ◌+◌, ◌*◌, cond, List, [], ◌∷◌, 
 use Rattle.rules.specs.Record.{State, start}
 use Rattle.rules.specs.Step.{Outcome}
 use Rattle.rules.specs.Session.{outcomes, after}
-use Rattle.file_rules.specs.declared.End.{End}
+use Rattle.file_rules.specs.Item.{End}
 use Rattle.file_rules.specs.File.{Session, session, verdict}
 use Rattle.listing_rules.specs.Text.{heading, too_long, line, tail}
 

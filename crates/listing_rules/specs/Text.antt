@@ -7,7 +7,7 @@
 --   tail n p ls      how a listing ends
 use Rattle.std.specs.Prelude.{ℕ, zero, suc, ◌+◌, ◌/◌, ◌%◌, cond, List, [], ◌∷◌, ◌++◌, eqb, ltb}
 use Rattle.basics.specs.Ascii.{ascii, newline, space}
-use Rattle.rules.specs.declared.Answer.{Answer}
+use Rattle.rules.specs.Types.{Answer}
 
 -- ---- Numbers
 

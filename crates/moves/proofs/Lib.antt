@@ -1,4 +1,5 @@
 -- What the functions' proofs cite; each file opens with what it shows.
+pub mod Numbers
 pub mod Rings
 pub mod Loop
 pub mod Dealt

@@ -7,7 +7,8 @@ use native.Mathlib.Nat.{le_refl}
 use native.Mathlib.Omega.{arith}
 use lib.Dec.{eqb}
 use Rattle.rules.specs.Bits.{bit}
-use Rattle.rules.specs.Clocks.{clear, none, only, clock, clock_accepted, tick_accepted, on_tick, on_outside}
+use Rattle.rules.specs.Clocks.{clear, only, clock, clock_accepted, tick_accepted, on_tick, on_outside}
+use Rattle.rules.specs.declared.Fate.TheVariants.{NoLoad as none}
 use Rattle.rules.specs.Writes.{buffer_of, tried, write_buffer, write_control, write_mask, write_rate, write_adjust, on_write}
 use Rattle.rules.proofs.Choice.{either}
 use Rattle.rules.specs.declared.Core.{Core}

@@ -8,7 +8,8 @@ use Rattle.rules.specs.declared.Core.{Core}
 use Rattle.plans.specs.declared.Act.{Act}
 use Rattle.plans.specs.declared.Act.TheVariants.{Nothing, Empties, Clocks, Loads}
 use Rattle.rules.specs.Bits.{bit}
-use Rattle.rules.specs.Clocks.{Play, clear, none, only, clock}
+use Rattle.rules.specs.Clocks.{Play, clear, only, clock}
+use Rattle.rules.specs.declared.Fate.TheVariants.{NoLoad as none}
 use Rattle.rules.specs.Writes.{write_control, write_mask, write_rate, write_adjust, write_data}
 
 unfoldable pub carried : Act → Core → List ℕ → Bool → Play

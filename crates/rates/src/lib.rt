@@ -2,10 +2,11 @@
 #![tactic(auto)]
 
 ghost use Rattle.std.specs.Prelude.{◌≤◌, ◌<◌, ◌≡◌};
+ghost use Rattle.rules.specs.Numbered.{figures_of};
 ghost use Rattle.rules.specs.Rates.{reference_of, whole_reference, sample_rate, rates};
 ghost use Rattle.rules.specs.Told.{Told};
 
-use rules::{Board, Clock, Figures};
+use rules::{Board, Clock, Frequencies, Refusal};
 use soundness::is_sound;
 
 // 01: "The 512 reference frequencies stand in a table, whole hertz rounded down: 16,000,000·(511 + Nclk)/511."
@@ -73,8 +74,7 @@ fn reference(nclk: u32) -> u32
     requires { nclk ≤ 511 }
     ensures { result ≡ reference_of nclk }
 {
-    let at = nclk as usize;
-    REFERENCE[at]
+    REFERENCE[nclk as usize]
 }
 
 // 01: "(30,000,000 Hz if ALT = 0)"
@@ -100,35 +100,24 @@ fn sample_rate(k: Clock) -> u32
     30000000 / k.divisor
 }
 
-fn refused(n: u32) -> Figures
-    ensures { result ≡ record { refusal = n; reference = 0; rate = 0 } }
-{
-    Figures {
-        refusal: n,
-        reference: 0,
-        rate: 0,
-    }
-}
-
 // The rate figures of a board record, or the refusal 3, 9 or 8.
-pub fn rate(b: Board) -> Figures
-    ensures { Told (rates b) result }
+pub fn rate(b: Board) -> Result<Frequencies, Refusal>
+    ensures { Told (rates b) (figures_of result) }
 {
     if !is_sound(b) {
-        return refused(3);
+        return Err(Refusal::Unsound);
     }
     let k = b.core.clock;
     let external = b.core.mode.external;
     let undivided = k.divisor == 0;
     if external {
-        return refused(9);
+        return Err(Refusal::ExternalClock);
     }
     if undivided {
-        return refused(8);
+        return Err(Refusal::DivisorZero);
     }
-    Figures {
-        refusal: 0,
+    Ok(Frequencies {
         reference: whole_reference(k),
         rate: sample_rate(k),
-    }
+    })
 }

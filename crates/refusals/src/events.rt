@@ -1,5 +1,6 @@
 // The refusals of each kind of event, in 01's order.
 ghost use Rattle.std.specs.Prelude.{ℕ, ◌≡◌, not, cond, List, length, eqb};
+ghost use Rattle.rules.specs.Numbered.{outcome_number};
 ghost use Rattle.rules.specs.Record.{depth, sound, state_of};
 ghost use Rattle.rules.specs.Registers.{is_offset};
 ghost use Rattle.rules.specs.Refusals.{setting_refusal, ends_nothing, too_short, refusal};
@@ -9,138 +10,132 @@ ghost use Rattle.rules.specs.Own.{own_write, own_number};
 ghost use Rattle.rules.specs.Laws.Refusals.{Ordinary};
 
 use record::{code_in_range, depth, depth_of, firmware_in_range, fitted_in_range};
-use rules::{Board, Core, Event, Settings, Signal};
+use rules::{Board, Core, Event, Refusal, Settings, Signal};
 use soundness::is_sound;
 
 // 02: "1 now means the fitted code only; 14 range, 15 filter, 16 kit, 17 firmware; checked in that order".
-pub(crate) fn setting_refusal(x: Settings) -> u32
-    ensures { result ≡ setting_refusal x }
+#[tactic(auto, using(rules::proofs::Equal::told_true, rules::proofs::Equal::told_false), unfolding(rules::specs::Numbered::refusal_number, rules::specs::Refusals::setting_refusal, rules::specs::Refusals::setting_rows, rules::specs::Refusals::first_of))]
+pub(crate) fn judge_settings(x: Settings) -> Result<(), Refusal>
+    ensures { outcome_number result ≡ setting_refusal x }
 {
     if !fitted_in_range(x.fitted) {
-        return 1;
+        return Err(Refusal::FittedCode);
     }
     if !code_in_range(x.range) {
-        return 14;
+        return Err(Refusal::RangeCode);
     }
     if !code_in_range(x.filter) {
-        return 15;
+        return Err(Refusal::FilterCode);
     }
     if !code_in_range(x.kit) {
-        return 16;
+        return Err(Refusal::KitCode);
     }
     if !firmware_in_range(x.firmware) {
-        return 17;
+        return Err(Refusal::Firmware);
     }
-    0
+    Ok(())
 }
 
-// "offset other than 00, 04, 08, 0C, 10, 14, 18, 1C (hex)" is what this denies. Nested as `some` over the rules' list is.
+// "offset other than 00, 04, 08, 0C, 10, 14, 18, 1C (hex)" is what this denies.
+#[tactic(auto, unfolding(rules::specs::Registers::is_offset, rules::specs::Registers::registers, rules::specs::Bits::some))]
 pub(crate) fn is_offset(o: u32) -> bool
     ensures { result ≡ is_offset o }
 {
-    (o == 0)
-        | ((o == 4)
-            | ((o == 8)
-                | ((o == 12) | ((o == 16) | ((o == 20) | ((o == 24) | ((o == 28) | false)))))))
+    matches!(o, 0x00 | 0x04 | 0x08 | 0x0C | 0x10 | 0x14 | 0x18 | 0x1C)
 }
 
 // "calibration end while none runs, or settled while not settling"
+#[tactic(auto, unfolding(rules::specs::Refusals::ends_nothing))]
 pub(crate) fn ends_nothing(c: Core, x: Signal) -> bool
     ensures { result ≡ ends_nothing c x }
 {
     match x {
-        Signal::Tick => false,
-        Signal::Outside => false,
-        Signal::Trigger => false,
-        Signal::Passed => !c.calibration.running,
-        Signal::Failed => !c.calibration.running,
+        Signal::Passed | Signal::Failed => !c.calibration.running,
         Signal::Settled => !c.clock.settling,
+        _ => false,
     }
 }
 
 // 02: "then 2". The depth is reckoned only of a fitted code in range.
-pub(crate) fn power_up_refusal(x: Settings, len: usize) -> u32
-    ensures { (b : Board) (m : List ℕ) → length m ≡ len → result ≡ refusal (state_of b m) (power_up x) }
+pub(crate) fn judge_power_up(x: Settings, len: usize) -> Result<(), Refusal>
+    ensures { (b : Board) (m : List ℕ) → length m ≡ len → outcome_number result ≡ refusal (state_of b m) (power_up x) }
 {
-    let n = setting_refusal(x);
-    if n != 0 {
-        return n;
-    }
+    judge_settings(x)?;
     if len < depth_of(x.fitted) as usize {
-        return 2;
+        return Err(Refusal::ShortMemory);
     }
-    0
+    Ok(())
 }
 
 // 3, then 2.
-pub(crate) fn standing(b: Board, len: usize) -> u32
-    ensures { (m : List ℕ) → length m ≡ len → (n : ℕ) → cond (not (sound b)) 3 (cond (too_short m (depth b)) 2 n) ≡ cond (eqb result 0) n result }
+pub(crate) fn judge_record(b: Board, len: usize) -> Result<(), Refusal>
+    ensures { (m : List ℕ) → length m ≡ len → (n : ℕ) → cond (not (sound b)) 3 (cond (too_short m (depth b)) 2 n) ≡ cond (eqb (outcome_number result) 0) n (outcome_number result) }
 {
     if !is_sound(b) {
-        return 3;
+        return Err(Refusal::Unsound);
     }
     if len < depth(b) as usize {
-        return 2;
+        return Err(Refusal::ShortMemory);
     }
-    0
+    Ok(())
 }
 
 // 4, 5, 6 of a write.
-pub(crate) fn own_write(c: Core, o: u32) -> u32
-    ensures { result ≡ own_write c o }
+#[tactic(auto, unfolding(rules::specs::Numbered::refusal_number, rules::specs::Own::own_write))]
+pub(crate) fn judge_write(c: Core, o: u32) -> Result<(), Refusal>
+    ensures { outcome_number result ≡ own_write c o }
 {
     if !is_offset(o) {
-        return 4;
+        return Err(Refusal::NoRegister);
     }
-    if (o == 16) | (o == 20) {
-        return 5;
+    if (o == 0x10) | (o == 0x14) {
+        return Err(Refusal::ReadOnly);
     }
     if c.calibration.running {
-        return 6;
+        return Err(Refusal::Calibrating);
     }
-    0
+    Ok(())
 }
 
 // 4 of a read.
-pub(crate) fn own_read(o: u32) -> u32
-    ensures { result ≡ cond (not (is_offset o)) 4 0 }
+#[tactic(auto, unfolding(rules::specs::Numbered::refusal_number))]
+pub(crate) fn judge_read(o: u32) -> Result<(), Refusal>
+    ensures { outcome_number result ≡ cond (not (is_offset o)) 4 0 }
 {
-    if is_offset(o) {
-        return 0;
+    if !is_offset(o) {
+        return Err(Refusal::NoRegister);
     }
-    4
+    Ok(())
 }
 
 // 7 of a signal.
-pub(crate) fn own_signal(c: Core, x: Signal) -> u32
-    ensures { result ≡ cond (ends_nothing c x) 7 0 }
+#[tactic(auto, unfolding(rules::specs::Numbered::refusal_number))]
+pub(crate) fn judge_signal(c: Core, x: Signal) -> Result<(), Refusal>
+    ensures { outcome_number result ≡ cond (ends_nothing c x) 7 0 }
 {
     if ends_nothing(c, x) {
-        return 7;
+        return Err(Refusal::NothingEnds);
     }
-    0
+    Ok(())
 }
 
 // An event's own number, once 3 and 2 are passed.
-pub(crate) fn own(c: Core, e: Event) -> u32
-    ensures { result ≡ own_number c e }
+#[tactic(auto, unfolding(rules::specs::Own::own_number))]
+pub(crate) fn judge_own(c: Core, e: Event) -> Result<(), Refusal>
+    ensures { outcome_number result ≡ own_number c e }
 {
     match e {
-        Event::PowerUp(_) => 0,
-        Event::Write { offset, value: _ } => own_write(c, offset),
-        Event::Read { offset } => own_read(offset),
-        Event::Signal(x) => own_signal(c, x),
+        Event::PowerUp(_) => Ok(()),
+        Event::Write { offset, .. } => judge_write(c, offset),
+        Event::Read { offset } => judge_read(offset),
+        Event::Signal(x) => judge_signal(c, x),
     }
 }
 
-// The number of an event that is no power-up.
-pub(crate) fn ordinary_refusal(b: Board, len: usize, e: Event) -> u32
-    ensures { (m : List ℕ) → length m ≡ len → Ordinary e → result ≡ refusal (state_of b m) e }
+// An event that is no power-up.
+pub(crate) fn judge_ordinary(b: Board, len: usize, e: Event) -> Result<(), Refusal>
+    ensures { (m : List ℕ) → length m ≡ len → Ordinary e → outcome_number result ≡ refusal (state_of b m) e }
 {
-    let n = standing(b, len);
-    if n == 0 {
-        let c = b.core;
-        return own(c, e);
-    }
-    n
+    judge_record(b, len)?;
+    judge_own(b.core, e)
 }

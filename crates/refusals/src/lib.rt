@@ -1,24 +1,20 @@
-// Which events are refused, and by which number. Every call takes every input.
+// Which events are refused, and why. Every call takes every input.
 #![tactic(auto)]
 
 ghost use Rattle.refusals.specs.Promises.{RefusalTold};
+ghost use Rattle.rules.specs.Numbered.{outcome_number};
 
-use crate::events::{ordinary_refusal, power_up_refusal};
-use rules::{Board, Event};
+use crate::events::{judge_ordinary, judge_power_up};
+use rules::{Board, Event, Refusal};
 
 mod events;
 
-// The number by which an event is refused on a record and a sample memory of `len` values; 0 where it is not.
-pub fn refusal(b: Board, len: usize, e: Event) -> u32
-    ensures { RefusalTold b len e result }
+// Whether an event is refused on a record and a sample memory of `len` values, and why.
+pub fn judge(b: Board, len: usize, e: Event) -> Result<(), Refusal>
+    ensures { RefusalTold b len e (outcome_number result) }
 {
     match e {
-        Event::PowerUp(x) => power_up_refusal(x, len),
-        Event::Write {
-            offset: _,
-            value: _,
-        } => ordinary_refusal(b, len, e),
-        Event::Read { offset: _ } => ordinary_refusal(b, len, e),
-        Event::Signal(_) => ordinary_refusal(b, len, e),
+        Event::PowerUp(x) => judge_power_up(x, len),
+        _ => judge_ordinary(b, len, e),
     }
 }

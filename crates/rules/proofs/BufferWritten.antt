@@ -3,10 +3,10 @@ use Prim.Native.Nat.{ℕ}
 use mathlib.Core.Path.{◌≡◌, refl, sym, ap, ◌∙◌}
 use mathlib.Core.Bool.{Bool, false, ◌&&◌, cond}
 use native.Mathlib.Omega.{arith}
-use Rattle.rules.specs.Types.{Core, write}
+use Rattle.rules.specs.Types.{Core, write, none as no_fate}
 use Rattle.rules.specs.Bits.{bit, bits_of}
 use Rattle.rules.specs.Record.{State, depth}
-use Rattle.rules.specs.Clocks.{Op, keep, clear, none as no_fate, Play}
+use Rattle.rules.specs.Clocks.{Op, keep, clear, Play}
 use Rattle.rules.specs.Registers.{buffer_bits, registers, read_from}
 use Rattle.rules.specs.Writes.{load_kept, load_asked, buffer_of, tried, write_buffer, on_write}
 use Rattle.rules.specs.Play.{play}

@@ -4,6 +4,7 @@
 pub mod Open
 pub mod Choice
 pub mod Equal
+pub mod Numbered
 pub mod Masks
 pub mod Readings
 pub mod Sizes

@@ -4,6 +4,7 @@
 --   clock c buf what an accepted clock does, the stored values being buf
 use Rattle.std.specs.Prelude.{ℕ, zero, suc, ◌+◌, ◌%◌, Bool, true, false, not, ◌&&◌, ◌||◌, cond, List, [], ◌∷◌, ◌++◌, map, ltb, eqb, length, take, set}
 use Rattle.rules.specs.Types.{Burst, Load, Core}
+use Rattle.rules.specs.Types.{Fate, none, was_stored, lost_to_full, lost_to_closed}
 use Rattle.rules.specs.Bits.{bit, active_from, head_or, some}
 use Rattle.rules.specs.Record.{level_span}
 use Rattle.rules.specs.Parts.{no_burst, with_burst, with_load, with_outputs}
@@ -17,9 +18,6 @@ pub data Op : Type 0 where
   leave recirculate : ℕ → Op
 
 -- 01: "load fate (0 none, 1 stored, 2 lost to full, 3 lost to closed)"
-pub data Fate : Type 0 where
-  none was_stored lost_to_full lost_to_closed : Fate
-
 abbrev pub fate_number : Fate → ℕ
 fate_number none = 0
 fate_number was_stored = 1

@@ -8,7 +8,8 @@ use Rattle.rules.specs.Types.{Options, Control, Mode, Calibration, Burst, Load, 
 use Rattle.rules.specs.Bits.{bit}
 use Rattle.rules.specs.Record.{value_span, channels}
 use Rattle.rules.specs.Parts.{no_burst, no_load, no_loss, with_control, with_mode, with_calibration, with_clock, with_burst, with_load, with_lost, with_outputs, with_cursor}
-use Rattle.rules.specs.Clocks.{clear, store, keep, none, was_stored, lost_to_full, lost_to_closed, Play, only, closed, on_outside}
+use Rattle.rules.specs.Clocks.{clear, store, keep, Play, only, closed, on_outside}
+use Rattle.rules.specs.Types.{none, was_stored, lost_to_full, lost_to_closed}
 
 -- ---- Initialise
 

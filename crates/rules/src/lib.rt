@@ -16,15 +16,15 @@ pub struct Settings {
 }
 
 // What reaches the board otherwise than over the bus: a tick of the rate generator, an outside clock, an outside trigger,
-// the end of a calibration, the end of settling.
+// the end of a calibration, the end of settling. `as u32` is the kind of its record in a session file.
 #[derive(Clone, Copy, Debug, PartialEq, Eq)]
 pub enum Signal {
-    Tick,
-    Outside,
-    Trigger,
-    Passed,
-    Failed,
-    Settled,
+    Tick = 4,
+    Outside = 5,
+    Trigger = 6,
+    Passed = 7,
+    Failed = 8,
+    Settled = 9,
 }
 
 #[derive(Clone, Copy)]
@@ -36,16 +36,6 @@ pub enum Event {
 }
 
 // ---- Answers
-
-// 01: "Each event answers: refusal number; register value (0 unless a read); values moved (0 to 20); load fate (0 none,
-// 1 stored, 2 lost to full, 3 lost to closed)."
-#[derive(Clone, Copy)]
-pub struct Answer {
-    pub refusal: u32,
-    pub register: u32,
-    pub moved: u32,
-    pub fate: u32,
-}
 
 // Why an event or a rate question is refused; `as u32` is document 01's number of it, as `refusal_number` in specs/Numbered.antt says.
 #[derive(Clone, Copy, Debug, PartialEq, Eq)]
@@ -65,7 +55,7 @@ pub enum Refusal {
     Firmware = 17,
 }
 
-// 01: "load fate (0 none, 1 stored, 2 lost to full, 3 lost to closed)"; `as u32` is that number, as `fate_number` in specs/Numbered.antt
+// 01: "load fate (0 none, 1 stored, 2 lost to full, 3 lost to closed)"; `as u32` is that number, as `fate_number` in specs/Clocks.antt
 // says.
 #[derive(Clone, Copy, Debug, PartialEq, Eq)]
 pub enum Fate {
@@ -73,6 +63,15 @@ pub enum Fate {
     Stored = 1,
     LostToFull = 2,
     LostToClosed = 3,
+}
+
+// What an event that is done answers; one that is refused answers its `Refusal`. 01: "register value (0 unless a read); values moved
+// (0 to 20); load fate".
+#[derive(Clone, Copy, Debug, PartialEq, Eq)]
+pub struct Done {
+    pub register: u32,
+    pub moved: u32,
+    pub fate: Fate,
 }
 
 // 01: "A rate question answers .. whole reference and rate", in hertz.

@@ -3,16 +3,16 @@ use mathlib.Core.Path.{◌≡◌, refl, ap, ◌∙◌}
 use mathlib.Core.Bool.{Bool, true, false, true≢false, false≢true}
 use mathlib.Core.List.{List}
 use Prim.Native.Nat.{ℕ}
-use Rattle.rules.specs.declared.Answer.{Answer}
+use Rattle.rules.specs.Types.{Answer}
 use Rattle.rules.specs.declared.Event.{Event}
 use Rattle.rules.specs.Record.{State}
 use Rattle.rules.specs.Step.{step}
-use Rattle.file_rules.specs.declared.End.{End}
+use Rattle.file_rules.specs.Item.{End}
 use Rattle.run.specs.declared.Cursor.{Cursor}
-use Rattle.run.specs.declared.Ahead.{Ahead}
-use Rattle.run.specs.declared.Ahead.TheVariants.{Found, Over}
-use Rattle.run.specs.declared.Progress.{Progress}
-use Rattle.run.specs.declared.Progress.TheVariants.{Played, Ended}
+use Rattle.run.specs.Ahead.{Ahead}
+use Rattle.run.specs.Ahead.{Found, Over}
+use Rattle.run.specs.Ahead.{Progress}
+use Rattle.run.specs.Ahead.{Played, Ended}
 use Rattle.run.specs.Run.{found, on_ahead, advanced}
 
 abbrev is_played : Progress → Bool

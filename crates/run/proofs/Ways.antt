@@ -7,16 +7,16 @@ use native.Mathlib.Omega.{arith}
 use Rattle.rules.specs.declared.Event.{Event}
 use Rattle.rules.specs.declared.Signal.TheVariants.{Tick}
 use Rattle.rules.specs.declared.Event.TheVariants.{Signal as signal}
-use Rattle.file_rules.specs.declared.End.{End}
-use Rattle.file_rules.specs.declared.End.TheVariants.{File}
-use Rattle.file_rules.specs.declared.Item.{Item}
-use Rattle.file_rules.specs.declared.Item.TheVariants.{Got, Over as over}
+use Rattle.file_rules.specs.Item.{End}
+use Rattle.file_rules.specs.Item.{File}
+use Rattle.file_rules.specs.Item.{Item}
+use Rattle.file_rules.specs.Item.{Got, Over as over}
 use Rattle.file_rules.specs.File.{item_at}
 use Rattle.file_rules.proofs.Given.{item_grows}
 use Rattle.file_rules.proofs.Rests.{rest_start, rest_got, rest_over}
 use Rattle.run.specs.declared.Cursor.{Cursor}
-use Rattle.run.specs.declared.Ahead.{Ahead}
-use Rattle.run.specs.declared.Ahead.TheVariants.{Found, Over}
+use Rattle.run.specs.Ahead.{Ahead}
+use Rattle.run.specs.Ahead.{Found, Over}
 use Rattle.run.specs.Run.{ahead_of, found}
 use Rattle.run.specs.Way.{Way-start, Way-on, Way-over, Way-ends}
 

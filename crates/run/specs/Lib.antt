@@ -1,3 +1,4 @@
+pub mod Ahead
 pub mod Run
 pub mod Numbers
 pub mod Way

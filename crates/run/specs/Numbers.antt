@@ -7,14 +7,14 @@ use Rattle.std.specs.Prelude.{ℕ, ◌≡◌, List, [], ◌∷◌}
 use Rattle.rules.specs.declared.Signal.TheVariants.{Settled}
 use Rattle.rules.specs.declared.Event.TheVariants.{Signal}
 use Rattle.file_rules.specs.declared.Fault.TheVariants.{Length}
-use Rattle.file_rules.specs.declared.End.TheVariants.{Refused}
-use Rattle.file_rules.specs.declared.Item.TheVariants.{Got, Over as over}
+use Rattle.file_rules.specs.Item.{Refused}
+use Rattle.file_rules.specs.Item.{Got, Over as over}
 use Rattle.file_rules.specs.File.{verdict}
 use Rattle.file_rules.specs.Numbers.{ItemNumbers, item_numbers}
-use Rattle.run.specs.declared.Ahead.{Ahead}
-use Rattle.run.specs.declared.Ahead.TheVariants.{Found, Over}
-use Rattle.run.specs.declared.Progress.{Progress}
-use Rattle.run.specs.declared.Progress.TheVariants.{Played, Ended}
+use Rattle.run.specs.Ahead.{Ahead}
+use Rattle.run.specs.Ahead.{Found, Over}
+use Rattle.run.specs.Ahead.{Progress}
+use Rattle.run.specs.Ahead.{Played, Ended}
 
 -- as those of an item
 abbrev pub ahead_numbers : Ahead → ItemNumbers

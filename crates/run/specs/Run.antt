@@ -4,21 +4,21 @@
 use Rattle.std.specs.Prelude.{List, ℕ}
 use Rattle.rules.specs.Record.{State}
 use Rattle.rules.specs.Step.{step}
-use Rattle.file_rules.specs.declared.Item.{Item}
-use Rattle.file_rules.specs.declared.Item.TheVariants.{Got, Over as over}
+use Rattle.file_rules.specs.Item.{Item}
+use Rattle.file_rules.specs.Item.{Got, Over as over}
 use Rattle.file_rules.specs.File.{item_at}
 use Rattle.run.specs.declared.Cursor.{Cursor}
-use Rattle.run.specs.declared.Ahead.{Ahead}
-use Rattle.run.specs.declared.Ahead.TheVariants.{Found, Over}
-use Rattle.run.specs.declared.Progress.{Progress}
-use Rattle.run.specs.declared.Progress.TheVariants.{Played, Ended}
+use Rattle.run.specs.Ahead.{Ahead}
+use Rattle.run.specs.Ahead.{Found, Over}
+use Rattle.run.specs.Ahead.{Progress}
+use Rattle.run.specs.Ahead.{Played, Ended}
 
-abbrev pub ahead_of : Item → Ahead
-ahead_of (Got e place) = Found e (record { place = place })
-ahead_of (over x) = Over x
+abbrev pub at_cursor : Item → Ahead
+at_cursor (Got e place) = Found e (record { place = place })
+at_cursor (over x) = Over x
 
 abbrev pub found : List ℕ → Cursor → Ahead
-found s c = ahead_of (item_at s c.place)
+found s c = at_cursor (item_at s c.place)
 
 pub record Stage : Type 0 where
   pub progress : Progress

@@ -3,10 +3,10 @@
 -- start, it stays so over each event that the loop passes, and at the end of the file the rest is empty.
 use Rattle.std.specs.Prelude.{ℕ, ◌-◌, ◌<◌, ◌≡◌, List, [], ◌∷◌, length}
 use Rattle.rules.specs.declared.Event.{Event}
-use Rattle.file_rules.specs.declared.End.{End}
+use Rattle.file_rules.specs.Item.{End}
 use Rattle.file_rules.specs.File.{Session, session, Rest}
 use Rattle.run.specs.declared.Cursor.{Cursor}
-use Rattle.run.specs.declared.Ahead.TheVariants.{Found, Over}
+use Rattle.run.specs.Ahead.{Found, Over}
 use Rattle.run.specs.Run.{found}
 
 module _ {O A : Type 0} (G : O → A → Session → Type 0) (s : List ℕ) (start : A) where

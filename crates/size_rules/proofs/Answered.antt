@@ -9,8 +9,8 @@ use lib.Dec.{ltb, eqb}
 use lib.ListN.{length}
 use Rattle.file_rules.specs.declared.Fault.{Fault}
 use Rattle.file_rules.specs.declared.Fault.TheVariants.{Version, Cut, Length, Kind}
-use Rattle.file_rules.specs.declared.End.{End}
-use Rattle.file_rules.specs.declared.End.TheVariants.{File, Refused}
+use Rattle.file_rules.specs.Item.{End}
+use Rattle.file_rules.specs.Item.{File, Refused}
 use Rattle.file_rules.specs.File.{session, verdict, fault_number}
 use Rattle.size_rules.specs.Smallest.{replays, plays_in_turn, codes, lowest, replayed, size_refusal, size_code, size_memory}
 use Rattle.size_rules.specs.Theorems.{Plays, Loses}

@@ -8,7 +8,7 @@ use Rattle.rules.specs.declared.Event.TheVariants.{Write as write}
 use Rattle.rules.specs.Record.{start}
 use Rattle.rules.specs.Session.{after}
 use Rattle.file_rules.specs.declared.Fault.{Fault}
-use Rattle.file_rules.specs.declared.End.TheVariants.{File, Refused}
+use Rattle.file_rules.specs.Item.{File, Refused}
 use Rattle.file_rules.specs.File.{session, fault_number}
 use Rattle.size_rules.specs.Coded.{sized_all}
 use Rattle.size_rules.specs.Smallest.{size_refusal, size_code, size_memory}

@@ -7,7 +7,7 @@
 use Rattle.std.specs.Prelude.{ℕ, ◌≤◌, ◌<◌, ◌≡◌, ◌↔◌, List, length, take}
 use Rattle.rules.specs.declared.Event.{Event}
 use Rattle.rules.specs.Record.{start}
-use Rattle.file_rules.specs.declared.End.TheVariants.{File}
+use Rattle.file_rules.specs.Item.{File}
 use Rattle.file_rules.specs.File.{session}
 use Rattle.demand3.specs.Demand3.{NothingLost, Agree}
 use Rattle.size_rules.specs.Coded.{sized_all}

@@ -3,10 +3,10 @@ use Prim.Native.Nat.{ℕ}
 use mathlib.Core.Path.{◌≡◌, refl}
 use mathlib.Core.List.{List}
 use Rattle.rules.specs.declared.Event.{Event}
-use Rattle.file_rules.specs.declared.End.{End}
+use Rattle.file_rules.specs.Item.{End}
 use Rattle.file_rules.specs.File.{Session, session}
 use Rattle.run.specs.declared.Cursor.{Cursor}
-use Rattle.run.specs.declared.Ahead.TheVariants.{Found, Over}
+use Rattle.run.specs.Ahead.{Found, Over}
 use Rattle.run.specs.Run.{found}
 use Rattle.run.specs.Way.{Way}
 use Rattle.run.proofs.Ways.{way_start, way_on, way_over}

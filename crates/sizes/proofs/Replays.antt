@@ -7,17 +7,17 @@ use lib.Dec.{eqb}
 use lib.ListN.{length}
 use Rattle.rules.specs.declared.Event.{Event}
 use Rattle.rules.specs.declared.Board.{Board}
-use Rattle.rules.specs.declared.Answer.{Answer}
+use Rattle.rules.specs.Types.{Answer}
 use Rattle.rules.specs.Record.{State, state_of, unpowered}
 use Rattle.rules.specs.Step.{Outcome, step}
 use Rattle.rules.specs.Session.{after}
 use Rattle.rules.proofs.Choice.{and_true}
-use Rattle.file_rules.specs.declared.End.{End}
+use Rattle.file_rules.specs.Item.{End}
 use Rattle.file_rules.specs.File.{Session}
 use Rattle.board.specs.declared.Reply.{Reply}
 use Rattle.board.specs.Promises.{Stepped}
 use Rattle.run.specs.declared.Cursor.{Cursor}
-use Rattle.run.specs.declared.Ahead.TheVariants.{Found, Over}
+use Rattle.run.specs.Ahead.{Found, Over}
 use Rattle.run.specs.Run.{found}
 use Rattle.run.specs.Way.{Way, Passes}
 use Rattle.run.proofs.Ways.{way_start, way_on, way_over}

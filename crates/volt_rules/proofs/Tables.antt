@@ -16,8 +16,8 @@ use Rattle.rules.specs.Step.{step}
 use Rattle.rules.proofs.Choice.{cases, either, cond_false}
 use Rattle.file_rules.specs.declared.Fault.{Fault}
 use Rattle.file_rules.specs.declared.Fault.TheVariants.{Version, Cut, Length, Kind}
-use Rattle.file_rules.specs.declared.End.{End}
-use Rattle.file_rules.specs.declared.End.TheVariants.{File, Refused}
+use Rattle.file_rules.specs.Item.{End}
+use Rattle.file_rules.specs.Item.{File, Refused}
 use Rattle.file_rules.specs.File.{session, verdict, fault_number}
 use Rattle.volt_rules.specs.declared.Extremes.{Extremes}
 use Rattle.volt_rules.specs.Volts.{volts_of, zero_volts}

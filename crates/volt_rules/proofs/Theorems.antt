@@ -17,7 +17,7 @@ use Rattle.rules.specs.Session.{outcomes, after}
 use Rattle.rules.proofs.Runs.{after_append}
 use Rattle.rules.proofs.Steps.{refusal_answered}
 use Rattle.rules.proofs.Refusals.{power_up_accepted}
-use Rattle.file_rules.specs.declared.End.TheVariants.{File}
+use Rattle.file_rules.specs.Item.{File}
 use Rattle.file_rules.specs.File.{session}
 use Rattle.volt_rules.specs.declared.Extremes.{Extremes}
 use Rattle.volt_rules.specs.Volts.{volts_of}

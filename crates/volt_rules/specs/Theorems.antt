@@ -11,7 +11,7 @@ use Rattle.rules.specs.Record.{start}
 use Rattle.rules.specs.Step.{step}
 use Rattle.rules.specs.Session.{after}
 use Rattle.laws.specs.Moved.{level_at}
-use Rattle.file_rules.specs.declared.End.TheVariants.{File}
+use Rattle.file_rules.specs.Item.{File}
 use Rattle.file_rules.specs.File.{session}
 use Rattle.volt_rules.specs.declared.Extremes.{Extremes}
 use Rattle.volt_rules.specs.Table.{table_refusal, table_channels}

@@ -8,8 +8,8 @@ use lib.Dec.{eqb}
 use lib.ListN.{get_or}
 use lib.Seq.{ext_get_or}
 use Rattle.rules.specs.declared.Board.{Board}
-use Rattle.file_rules.specs.declared.End.{End}
-use Rattle.file_rules.specs.declared.End.TheVariants.{File, Refused}
+use Rattle.file_rules.specs.Item.{End}
+use Rattle.file_rules.specs.Item.{File, Refused}
 use Rattle.file_rules.specs.File.{session}
 use Rattle.volt_rules.specs.declared.Extremes.{Extremes}
 use Rattle.volt_rules.specs.declared.Table.{Table}

@@ -6,8 +6,8 @@
 use Rattle.std.specs.Prelude.{ℕ, ◌<◌, ◌≡◌, Bool, false, cond, List, length, get_or, Float}
 use Rattle.std.specs.Float.{nan}
 use Rattle.rules.specs.declared.Board.{Board}
-use Rattle.file_rules.specs.declared.End.{End}
-use Rattle.file_rules.specs.declared.End.TheVariants.{File, Refused}
+use Rattle.file_rules.specs.Item.{End}
+use Rattle.file_rules.specs.Item.{File, Refused}
 use Rattle.file_rules.specs.File.{fault_number}
 use Rattle.volt_rules.specs.declared.Extremes.{Extremes}
 use Rattle.volt_rules.specs.declared.Table.{Table}

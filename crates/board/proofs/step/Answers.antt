@@ -1,15 +1,11 @@
--- Refused by its number, or done.
-use mathlib.Core.Path.{refl, sym, ◌∙◌}
+-- Refused, or done.
+use mathlib.Core.Path.{refl, sym}
 use Rattle.rules.specs.Record.{state_of}
 use Rattle.board.proofs.Whole.{refused_stepped}
 use Rattle.board.proofs.step.Goals as goal
 
 pub done-requires : goal.done-requires
-done-requires c = sym (c.refusal-n.ensures.told _ refl) ∙ c.if-n-eq0.true
+done-requires c = sym (c.in-Ok.ensures.told _ refl)
 
-pub returns : goal.returns
-returns c =
-    let a = c.args in
-    let s = state_of a.b a.memory.now in
-    let r = c.refused.ensures in
-    refused_stepped s a.e _ _ (c.refusal-n.ensures.told _ refl) c.if-n-eq0.false r.0 r.1
+pub returns-in-Err : goal.returns-in-Err
+returns-in-Err c = refused_stepped (state_of c.args.b c.args.memory.now) c.args.e _ (c.in-Err.ensures.told _ refl)

@@ -1,6 +1,6 @@
-use mathlib.Core.Path.{◌∙◌}
 use native.Mathlib.Omega.{arith}
 use borrow.Author.Tests.{ne_eqb}
+use Rattle.rules.specs.Numbered.{refusal_number}
 use Rattle.rules.specs.Refusals.{first_of}
 use Rattle.rules.specs.Rates.{rate_refusal, rates}
 use Rattle.rules.proofs.Equal.{told_true, told_false}
@@ -8,19 +8,17 @@ use Rattle.rules.proofs.Soundness.{sound_exactly}
 use Rattle.rates.proofs.rate.Goals as goal
 
 pub returns-then-not-is_sound : goal.returns-then-not-is_sound
-unfolding rates rate_refusal first_of
-returns-then-not-is_sound c = record { told = c.refused.ensures ∙ rw (told_false c.is_sound.ensures c.if-not-is_sound.true) }
+unfolding rates rate_refusal first_of refusal_number
+returns-then-not-is_sound c = record { told = rw (told_false c.is_sound.ensures c.if-not-is_sound.true) }
 
 pub returns-then-external : goal.returns-then-external
-unfolding rates rate_refusal first_of
-returns-then-external c =
-    record { told = c.refused-then-external.ensures ∙ rw (told_true c.is_sound.ensures c.if-not-is_sound.false, c.if-external.true) }
+unfolding rates rate_refusal first_of refusal_number
+returns-then-external c = record { told = rw (told_true c.is_sound.ensures c.if-not-is_sound.false, c.if-external.true) }
 
 pub returns-then-undivided : goal.returns-then-undivided
-unfolding rates rate_refusal first_of
+unfolding rates rate_refusal first_of refusal_number
 returns-then-undivided c =
-    let sure = told_true c.is_sound.ensures c.if-not-is_sound.false in
-    record { told = c.refused-then-undivided.ensures ∙ rw (sure, c.if-external.false, c.if-undivided.true) }
+    record { told = rw (told_true c.is_sound.ensures c.if-not-is_sound.false, c.if-external.false, c.if-undivided.true) }
 
 pub whole_reference-requires : goal.whole_reference-requires
 whole_reference-requires c =

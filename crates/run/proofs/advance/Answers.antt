@@ -1,8 +1,8 @@
 -- What stands at the cursor is what `next` told; an event is the board's step.
 use mathlib.Core.Path.{sym, ap, ◌∙◌}
 use Rattle.rules.specs.Record.{state_of}
-use Rattle.run.specs.declared.Ahead.{Ahead}
-use Rattle.run.specs.declared.Progress.TheVariants.{Played}
+use Rattle.run.specs.Ahead.{Ahead}
+use Rattle.run.specs.Ahead.{Played}
 use Rattle.run.specs.Run.{on_ahead, advanced}
 use Rattle.run.specs.Numbers.{progress_numbers}
 use Rattle.run.proofs.advance.Goals as goal

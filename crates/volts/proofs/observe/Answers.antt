@@ -1,7 +1,7 @@
 use mathlib.Core.Path.{sym, ap, subst, ◌∙◌}
 use mathlib.Core.Bool.{◌&&◌}
 use lib.Dec.{eqb}
-use Rattle.rules.specs.declared.Answer.{Answer}
+use Rattle.rules.specs.Types.{Answer}
 use Rattle.volt_rules.specs.Counting.{is_power_up, count_event}
 use Rattle.volts.specs.Watching.{table_of, watched, SameRange}
 use Rattle.volts.proofs.observe.Goals as goal

@@ -6,7 +6,7 @@ use Rattle.rules.specs.Record.{depth}
 use Rattle.rules.specs.Told.{Told}
 use Rattle.record.specs.Capped.{capped_board}
 use Rattle.board.specs.Promises.{Stepped}
-use Rattle.run.specs.declared.Ahead.TheVariants.{Found}
+use Rattle.run.specs.Ahead.{Found}
 use Rattle.lines.proofs.Printing.{printed_piece}
 use Rattle.listing.specs.Shortcuts.{common_event, common_of, quick, board_as, board_with, reply_of}
 use Rattle.listing.proofs.AtOnce.{quick_some, common_stands}

@@ -1,6 +1,6 @@
 use mathlib.Core.Path.{sym, ap, ◌∙◌}
 use Rattle.rules.specs.declared.Event.{Event}
-use Rattle.run.specs.declared.Ahead.TheVariants.{Found}
+use Rattle.run.specs.Ahead.{Found}
 use Rattle.listing.specs.Shortcuts.{common_of}
 use Rattle.listing.proofs.shortcuts.common_of.Goals as goal
 

@@ -1,6 +1,6 @@
 use Prim.Native.Nat.{◌^◌, ◌<◌}
 use mathlib.Core.Path.{subst}
-use Rattle.file_rules.specs.declared.End.{End}
+use Rattle.file_rules.specs.Item.{End}
 use Rattle.file_rules.specs.File.{verdict}
 use Rattle.file_rules.proofs.Joined.{piece_length}
 use Rattle.lines.proofs.Printing.{printed_piece}
