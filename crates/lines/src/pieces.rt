@@ -15,12 +15,9 @@ pub(crate) fn put_bytes(out: &mut [u8], at: usize, text: &[u8]) -> usize
     requires { at + length text.now ≤ length out.old }
     ensures { Piece out.old at text.now out.new result }
 {
-    let mut i: usize = 0;
-    while i < text.len() {
-        out[at + i] = text[i];
-        i += 1;
-    }
-    at + i
+    let end = at + text.len();
+    out[at..end].copy_from_slice(text);
+    end
 }
 
 pub(crate) fn capital_of(d: u32) -> u8
@@ -28,9 +25,10 @@ pub(crate) fn capital_of(d: u32) -> u8
     ensures { result ≡ capital d }
 {
     if d < 10 {
-        return (48 + d) as u8;
+        (48 + d) as u8
+    } else {
+        (55 + d) as u8
     }
-    (55 + d) as u8
 }
 
 // A number of one digit.

@@ -1,5 +1,4 @@
 -- What the functions' proofs cite; each file opens with what it shows.
-pub mod Numbers
 pub mod Rings
 pub mod Loop
 pub mod Dealt

@@ -18,7 +18,7 @@ use Rattle.moves.specs.declared.Stored.{Stored}
 use Rattle.moves.specs.Ready.{can_load, fate_of}
 use Rattle.moves.specs.Does.{ring_place}
 use Rattle.moves.specs.Promises.{LoadsOne}
-use Rattle.moves.proofs.Numbers.{same_fate}
+use Rattle.rules.proofs.Numbered.{same_fate}
 use Rattle.moves.proofs.Tested.{Fitting}
 
 module _ (c : Core) (size : ℕ) (ring : Ring) (d v : ℕ) (m : List ℕ) (r : Stored) (m' : List ℕ) where

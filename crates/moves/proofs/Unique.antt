@@ -4,7 +4,7 @@ use mathlib.Core.Bool.{Bool}
 use Rattle.rules.specs.Clocks.{burst_after, load_after}
 use Rattle.rules.proofs.Equal.{determined}
 use Rattle.moves.specs.Deal.{Dealing}
-use Rattle.moves.proofs.Numbers.{same_fate}
+use Rattle.rules.proofs.Numbered.{same_fate}
 use Rattle.moves.specs.Unique.{Deals-unique, LoadsOne-unique}
 
 pub deals_unique : Deals-unique
