@@ -11,7 +11,7 @@ use Rattle.rows.specs.Reading.{board_at}
 use Rattle.bridge.specs.Calls.{rate_status, figures_row, figures_left}
 use Rattle.bridge.specs.Promises.{RateCalled}
 use Rattle.bridge.proofs.Calls.{read_whole}
-use Rattle.bridge.proofs.nergutsai_rate.Goals as goal
+use Rattle.bridge.proofs.rate_called.Goals as goal
 
 not_understood : (r f : List ℕ) (n : ℕ) → rate_status (length r) (length f) ≡ n → eqb n 0 ≡ false → RateCalled r f n f
 unfolding figures_left
@@ -21,17 +21,18 @@ understood : (r f f' : List ℕ) → rate_status (length r) (length f) ≡ 0 →
 unfolding figures_left
 understood r f f' z e = record { understood = sym z; figures = rw z e }
 
-pub returns-then-row-ne-ROW_LONG : goal.returns-then-row-ne-ROW_LONG
+pub returns-then-other : goal.returns-then-other
 unfolding rate_status
-returns-then-row-ne-ROW_LONG c = not_understood _ _ 1 (rw (ne_eqb _ _ c.if-row-ne-ROW_LONG.true)) refl
+returns-then-other c = not_understood _ _ 1 (rw (ne_eqb _ _ c.if-other.true)) refl
 
 pub returns-then-misfit : goal.returns-then-misfit
 unfolding rate_status
-returns-then-misfit c = not_understood _ _ 3 (rw (eq-eqb _ _ c.if-row-ne-ROW_LONG.false, ne_eqb _ _ c.if-misfit.true)) refl
+returns-then-misfit c = not_understood _ _ 3 (rw (eq-eqb _ _ c.if-other.false, ne_eqb _ _ c.if-misfit.true)) refl
 
 pub returns : goal.returns
 unfolding rate_status
 returns c =
-    let long = c.if-row-ne-ROW_LONG.false in
+    let long = c.if-other.false in
     understood _ _ _ (rw (eq-eqb _ _ long, eq-eqb _ _ c.if-misfit.false))
-    (c.put_figures.ensures ∙ ap figures_row (c.rate.ensures.told ∙ ap rates (read_whole _ _ long c.board_at.ensures)))
+    (c.copy_from_slice.ensures.after ∙ c.figures_row.ensures
+    ∙ ap figures_row (c.rate.ensures.told ∙ ap rates (read_whole _ _ long c.board_at.ensures)))
