@@ -1,6 +1,5 @@
 // How a session file ends.
 use crate::print;
-use console::within;
 use file_rules::End;
 use kinds::fault_number;
 use std::io;
@@ -15,10 +14,8 @@ fn ended(rt: &impl Print, end: End) -> io::Result<()> {
     }
 }
 
-// The first `count` bytes are the file.
-pub(crate) fn told(rt: &impl Print, bytes: &[u8; 16], count: u8) -> io::Result<()> {
+pub(crate) fn told(rt: &impl Print, file: &[u8]) -> io::Result<()> {
     let mut memory = [0u32; 8];
-    let n = within(count as usize, bytes);
-    let r = run::run(&bytes[..n], &mut memory);
+    let r = run::run(file, &mut memory);
     ended(rt, r.end)
 }

@@ -8,23 +8,19 @@ use rules::{Burst, Load};
 pub(crate) fn coded(binary: bool, v: u32) -> u16
     ensures { result ≡ coded binary v }
 {
+    let data = (v % 65536) as u16;
     if binary {
-        return (v % 65536) as u16;
+        data
+    } else {
+        data.wrapping_add(32768)
     }
-    ((v % 65536 + 32768) % 65536) as u16
 }
 
 // 01: "a burst ends"
 pub(crate) fn burst_after(ended: bool, x: Burst) -> Burst
     ensures { result ≡ burst_after ended x }
 {
-    if ended {
-        return Burst {
-            running: false,
-            software: false,
-        };
-    }
-    x
+    if ended { Burst::default() } else { x }
 }
 
 // 01: "opened becomes closed; else pending becomes opened"
@@ -32,10 +28,11 @@ pub(crate) fn load_after(ended: bool, x: Load) -> Load
     ensures { result ≡ load_after ended x }
 {
     if ended {
-        return Load {
+        Load {
             pending: false,
             opened: !x.opened & x.pending,
-        };
+        }
+    } else {
+        x
     }
-    x
 }

@@ -1,33 +1,24 @@
 // What the program writes of a session: the refusal, the channels that are not at positive zero throughout, and the memory.
-use crate::decimals::{is_negative, volts};
+use crate::decimals::decimal;
 use std::io;
 use volt_rules::Extremes;
 
-pub(crate) fn line(rt: &impl Print, text: &str) -> io::Result<()> {
-    println!(rt; "{text}")
-}
-
-fn number(rt: &impl Print, what: &str, x: f32) -> io::Result<()> {
-    print!(rt; "{what}")?;
-    volts(rt, x)
-}
-
+// Positive zero, and not the zero with the sign of a number below it.
 fn is_zero(x: f32) -> bool {
-    (x == 0.0) & !is_negative(x)
+    (x == 0.0) & !x.is_sign_negative()
 }
 
-fn channel(rt: &impl Print, k: usize, x: Extremes) -> io::Result<()> {
+fn channel(rt: &HostRuntime, k: usize, x: Extremes) -> io::Result<()> {
     if is_zero(x.lowest) & is_zero(x.highest) & is_zero(x.last) {
         return Ok(());
     }
-    print!(rt; "  channel {k}")?;
-    number(rt, " lowest ", x.lowest)?;
-    number(rt, " highest ", x.highest)?;
-    number(rt, " last ", x.last)?;
-    println!(rt)
+    let lowest = decimal(rt.alloc(), x.lowest)?;
+    let highest = decimal(rt.alloc(), x.highest)?;
+    let last = decimal(rt.alloc(), x.last)?;
+    println!(rt; "  channel {k} lowest {lowest} highest {highest} last {last}")
 }
 
-pub(crate) fn table(rt: &impl Print, refusal: u32, channels: [Extremes; 20]) -> io::Result<()> {
+pub(crate) fn table(rt: &HostRuntime, refusal: u32, channels: [Extremes; 20]) -> io::Result<()> {
     println!(rt; "  refusal {refusal}")?;
     for (k, x) in channels.iter().enumerate() {
         channel(rt, k, *x)?;

@@ -5,6 +5,6 @@ pub returns-then-ended : goal.returns-then-ended
 unfolding load_after
 returns-then-ended c = rw c.if-ended.true
 
-pub returns : goal.returns
+pub returns-else-ended : goal.returns-else-ended
 unfolding load_after
-returns c = rw c.if-ended.false
+returns-else-ended c = rw c.if-ended.false

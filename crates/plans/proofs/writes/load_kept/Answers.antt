@@ -1,7 +1,12 @@
--- The pick is the choice of `load_kept`.
+use mathlib.Core.Path.{refl}
 use Rattle.rules.specs.Writes.{load_kept}
+use Rattle.plans.proofs.Zeros.{load_zero}
 use Rattle.plans.proofs.writes.load_kept.Goals as goal
 
-pub returns : goal.returns
+pub returns-then-kept : goal.returns-then-kept
 unfolding load_kept
-returns c = c.pick_load.ensures
+returns-then-kept c = rw c.if-kept.true refl
+
+pub returns-else-kept : goal.returns-else-kept
+unfolding load_kept
+returns-else-kept c = rw c.if-kept.false (load_zero c.default.ensures)

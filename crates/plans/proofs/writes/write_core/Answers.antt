@@ -26,9 +26,9 @@ returns-then-o-eq8 c =
       eq-eqb _ _ c.if-o-eq8.true,
     )
 
-pub returns : goal.returns
+pub returns-else-o-eq8 : goal.returns-else-o-eq8
 unfolding core_of
-returns c =
+returns-else-o-eq8 c =
     rw (
       c.write_adjust.ensures,
       ne_eqb _ _ c.if-o-eq0.false,

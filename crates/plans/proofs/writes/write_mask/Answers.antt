@@ -6,11 +6,11 @@ use Rattle.rules.specs.Writes.{write_mask}
 use Rattle.record.proofs.Limits.{limit_least}
 use Rattle.plans.proofs.writes.write_mask.Goals as goal
 
-pub nonzero_rem-mask : goal.nonzero_rem-mask
-nonzero_rem-mask c = omega (arith, limit_least _ _ c.mask_limit-limit.ensures)
+pub nonzero_rem-result : goal.nonzero_rem-result
+nonzero_rem-result c = omega (arith, limit_least _ _ c.mask_limit.ensures)
 
 pub returns : goal.returns
 unfolding write_mask
 returns c =
     let a = c.args in
-    λ i. with_outputs (record { mask = a.v % c.mask_limit-limit.ensures.told i; cursor = 0; levels = a.c.outputs.levels }) a.c
+    λ i. with_outputs (record { mask = a.v % c.mask_limit.ensures.told i; cursor = 0; levels = a.c.outputs.levels }) a.c
