@@ -1,13 +1,12 @@
 -- Events done at once: what they change is what the step says.
 use Prim.Native.Nat.{ℕ, ◌%◌, ◌≤◌, ◌<◌}
 use mathlib.Core.Path.{◌≡◌, refl, sym, ap, subst, ◌∙◌}
-use mathlib.Core.Logic.{◌≢◌}
-use mathlib.Core.Bool.{Bool, true, false, cond, false≢true}
+use mathlib.Core.Bool.{Bool, true, false, false≢true}
 use mathlib.Core.List.{List}
 use native.Mathlib.Nat.{le_refl, min-eq_right}
 use native.Mathlib.Omega.{arith}
-use borrow.Author.Tests.{eqb-true, ne_eqb, leb-true, leb-false, not-true, lt-leb}
-use lib.Dec.{eqb, leb}
+use borrow.Author.Tests.{eqb-true, leb-true, leb-false, not-true, lt-leb}
+use lib.Dec.{leb}
 use Rattle.std.specs.Prelude.{Ok}
 use Rattle.rules.specs.declared.Signal.TheVariants.{Tick as tick}
 use Rattle.rules.specs.declared.Event.{Event}
@@ -27,7 +26,7 @@ use Rattle.rules.specs.Refusals.{refusal}
 use Rattle.rules.specs.Step.{reading, played, board_before, with_request}
 use Rattle.rules.specs.Laws.Soundness.{Stands}
 use Rattle.rules.specs.Laws.Refusals.{written, heard, a_tick}
-use Rattle.rules.proofs.Choice.{all_cons, and_both, and_true, cond_true, cond_false}
+use Rattle.rules.proofs.Choice.{all_cons, and_both, and_true, cond_true}
 use Rattle.rules.proofs.Refusals.{refusal_exactly}
 use Rattle.moves.specs.declared.Played.{Played}
 use Rattle.moves.specs.declared.Stored.{Stored}

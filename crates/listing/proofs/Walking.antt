@@ -1,13 +1,14 @@
 -- What the loops over a session keep (specs/Draft.antt): from the start they have passed nothing; an event that was played and written is
 -- passed; and at the end of the file all is written.
 use Prim.Native.Nat.{ℕ, ◌+◌, ◌≤◌}
-use mathlib.Core.Path.{◌≡◌, refl, sym, subst}
+use mathlib.Core.Path.{◌≡◌, refl, sym, ap, subst, ◌∙◌}
 use mathlib.Core.List.{List, ◌∷◌}
 use native.Mathlib.Omega.{arith}
 use native.Mathlib.Nat.{le_refl}
 use lib.ListN.{length}
 use Rattle.rules.specs.declared.Event.{Event}
-use Rattle.rules.specs.Record.{State, state_of}
+use Rattle.rules.specs.declared.Board.{Board}
+use Rattle.rules.specs.Record.{State, state_of, unpowered, start as initially}
 use Rattle.rules.specs.Step.{step}
 use Rattle.rules.specs.Numbered.{answer_of}
 use Rattle.rules.specs.Session.{after}
@@ -27,7 +28,7 @@ use Rattle.run.specs.Way.{Passes}
 use Rattle.run.proofs.Ways.{event_stood, way_start, way_on, way_over}
 use Rattle.file_rules.specs.Pieces.{Piece}
 use Rattle.file_rules.proofs.Joined.{then, piece_length}
-use Rattle.listing_rules.specs.Listing.{levels_of, ending}
+use Rattle.listing_rules.specs.Listing.{levels_of, ending, body}
 use Rattle.listing.specs.declared.hurry.Reached.{Reached}
 use Rattle.listing.specs.Draft.{Draft, draft, Page, Fills, Fair, Walked}
 use Rattle.listing.proofs.Body.{body_event, body_end}
@@ -86,3 +87,17 @@ unfolding after
 walked_over s start c k z out' at' p h w =
     way_over Page Draft Fills s start k c z _ (p.way start (way_start Page Draft Fills s start)) h
     (record { text = rw (body_end k.number k.state z) w; memory = refl })
+
+-- the listing after its heading: from an unpowered board on all events are passed, and its end is written
+pub body_written : (s m out : List ℕ) (b : Board) (at : ℕ) (c : Cursor) (k : Reached) (m1 out1 : List ℕ) (z : End) (out' : List ℕ) (at' : ℕ)
+    → b ≡ unpowered
+    → Walked s (record { place = 0 }) (draft (record { board = b; at = at; number = 1 }) m out) c (draft k m1 out1)
+    → found s c ≡ Over z
+    → Piece out1 k.at (ending z k.board.core.outputs.levels) out' at'
+    → Piece out at (body 1 (initially m) (session s)) out' at' × (m1 ≡ (after (initially m) (session s).events).memory)
+body_written s m out b at c k m1 out1 z out' at' dark p h w =
+    let over = walked_over s _ c (draft k m1 out1) z out' at' p h w in
+    let start = ap (λ (x : Board). state_of x m) dark in (
+      subst (λ (st : State). Piece out at (body 1 st (session s)) out' at') start over.text,
+      over.memory ∙ ap (λ (st : State). (after st (session s).events).memory) start,
+    )

@@ -7,14 +7,10 @@ ghost use Rattle.listing.specs.Draft.{draft, Fair, Hurries};
 
 use crate::parts::with_levels;
 use crate::shortcuts::{Common, at_once, common_of, quick};
-use file_rules::FileError;
 use lines::put_done;
 use record::depth;
-use rules::{Board, Event};
-use run::{Cursor, next};
-
-// What `next` tells: the event at a cursor and the cursor after it, or how the file ends.
-pub(crate) type Ahead = Result<Option<(Event, Cursor)>, FileError>;
+use rules::Board;
+use run::{Ahead, Cursor, next};
 
 // How far a session is played and written: the board, the place in the output, and the number of the next line.
 #[derive(Clone, Copy)]

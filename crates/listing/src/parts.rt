@@ -2,9 +2,7 @@
 ghost use Rattle.std.specs.Prelude.{◌≡◌};
 ghost use Rattle.moves.specs.Promises.{with_levels};
 
-use rules::{
-    Burst, Calibration, Clock, Control, Core, Load, Lost, Mode, Options, Outputs,
-};
+use rules::{Burst, Calibration, Clock, Control, Core, Load, Lost, Mode, Options, Outputs};
 
 // Field by field: of parts that are copied whole, the compiler keeps groups of flags in memory and waits for them.
 pub(crate) fn with_levels(core: Core, levels: [u16; 20]) -> Core

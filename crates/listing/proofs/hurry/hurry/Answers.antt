@@ -5,24 +5,24 @@ use Rattle.run.proofs.Ways.{way_ends}
 use Rattle.lines.proofs.Printing.{printed_piece}
 use Rattle.listing.specs.declared.hurry.Reached.{Reached}
 use Rattle.listing.specs.Shortcuts.{board_as, reply_of}
-use Rattle.listing.specs.Draft.{board_now, draft, Hurries, Walked}
+use Rattle.listing.specs.Draft.{board_now, draft, Walked}
 use Rattle.listing.proofs.Walking.{walked_start, walked_then, walked_on, line_room, number_small}
 use Rattle.listing.proofs.hurry.hurry.Goals as goal
 
-pub loop-levels-init : goal.loop-levels-init
-loop-levels-init c =
+pub loop-common-init : goal.loop-common-init
+loop-common-init c =
     (refl, refl, walked_start c.args.s.now c.args.from _ c.requires.1)
 
 pub shape_of-memory-in_default : goal.shape_of-memory-in_default
-shape_of-memory-in_default c = c.loop-levels.invariant.0
+shape_of-memory-in_default c = c.loop-common.invariant.0
 
 pub shape_of-out-in_default : goal.shape_of-out-in_default
-shape_of-out-in_default c = c.loop-levels.invariant.1
+shape_of-out-in_default c = c.loop-common.invariant.1
 
 pub returns-in_default : goal.returns-in_default
 returns-in_default c =
     let a = c.args in
-    let l = c.loop-levels in
+    let l = c.loop-common in
     let at : Core → Reached = λ x. record { board = board_as a.start.board x l.ring; at = l.at; number = l.number } in
     record {
       cursor = l.c;
@@ -32,20 +32,20 @@ returns-in_default c =
 
 pub at_once-change-requires : goal.at_once-change-requires
 at_once-change-requires c =
-    (record { told = c.depth-d.ensures.told }, c.in-Some.ensures.1, c.loop-levels.invariant.2.fair.sound)
+    (record { told = c.depth-d.ensures.told }, c.in-Some.ensures.1, c.loop-common.invariant.2.fair.sound)
 
 pub overflow_add-number : goal.overflow_add-number
 overflow_add-number c =
-    record { fits = omega (arith, number_small _ _ _ _ _ c.loop-levels.invariant.2.fair c.requires.0) }
+    record { fits = omega (arith, number_small _ _ _ _ _ c.loop-common.invariant.2.fair c.requires.0) }
 
-pub loop-levels-smaller : goal.loop-levels-smaller
-loop-levels-smaller c =
-    way_ends c.args.s.now c.loop-levels.c _ _ (sym c.next-ahead.ensures.told ∙ c.in-Some.ensures.0)
+pub loop-common-smaller : goal.loop-common-smaller
+loop-common-smaller c =
+    way_ends c.args.s.now c.loop-common.c _ _ (sym c.next-ahead.ensures.told ∙ c.in-Some.ensures.0)
 
-pub loop-levels-preserved : goal.loop-levels-preserved
-loop-levels-preserved c =
+pub loop-common-preserved : goal.loop-common-preserved
+loop-common-preserved c =
     let a = c.args in
-    let l = c.loop-levels in
+    let l = c.loop-common in
     let f = l.invariant.2.fair in
     let now : Reached = record { board = board_now a.start.board l.core l.levels l.ring; at = l.at; number = l.number } in
     let stood = sym c.next-ahead.ensures.told ∙ c.in-Some.ensures.0 in
