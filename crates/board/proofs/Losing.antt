@@ -36,7 +36,7 @@ module _ (c : Core) (full : Bool) (v : ℕ) where
   load_moved = let ok : Play → Type 0 = λ p. 0 ≡ p.moved in either ok (closed c) refl (either ok full refl refl)
 
 pub load_does : (c : Core) (size : ℕ) (ring : Ring) (d v : ℕ) (m : List ℕ) (r : Stored) (m' : List ℕ) (k : Core) → Ready d ring m → size ≤ d
-    → LoadsOne c size ring d v m r m' → k ≡ lost_by r.fate c
+    → LoadsOne c size ring d v m r m' → k ≡ lost_by (fate_number r.fate) c
     → Does d (write_data c (leb size ring.count) v) ring m (record { core = k; ring = r.ring; moved = 0; fate = r.fate }) m'
 load_does c size ring d v m r m' k h s l e =
     let w = load_whole c size ring d v m h s in

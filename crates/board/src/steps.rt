@@ -2,8 +2,6 @@
 ghost use Rattle.std.specs.Prelude.{◌≤◌, ◌≡◌};
 ghost use Rattle.board.specs.Promises.{Stepped};
 ghost use Rattle.rules.specs.Laws.Refusals.{Ordinary};
-ghost use Rattle.rules.specs.Clocks.{fate_number};
-ghost use Rattle.rules.specs.declared.Fate.{Fate};
 ghost use Rattle.rules.specs.Refusals.{refusal};
 ghost use Rattle.rules.specs.Size.{size_after};
 ghost use Rattle.rules.specs.Interrupt.{request_held};
@@ -17,7 +15,7 @@ use moves::Played;
 use plans::plan_of;
 use record::depth;
 use registers::register_at;
-use rules::{Board, Done, Event, Fate};
+use rules::{Board, Done, Event};
 
 // 01: "register value (0 unless a read)"
 #[tactic(auto, unfolding(rules::specs::Step::reading))]
@@ -43,17 +41,6 @@ pub(crate) fn board_before(b: Board, p: Played, e: Event) -> Board
     }
 }
 
-fn fate_of(n: u32) -> Fate
-    ensures { (f : Fate) → n ≡ fate_number f → fate_number result ≡ n }
-{
-    match n {
-        0 => Fate::NoLoad,
-        1 => Fate::Stored,
-        2 => Fate::LostToFull,
-        _ => Fate::LostToClosed,
-    }
-}
-
 // An event that is not refused.
 pub(crate) fn done(b: Board, memory: &mut [u32], e: Event) -> Reply
     requires { refusal (state_of b memory.old) e ≡ 0 }
@@ -68,7 +55,7 @@ pub(crate) fn done(b: Board, memory: &mut [u32], e: Event) -> Reply
         answer: Ok(Done {
             register: value,
             moved: p.moved,
-            fate: fate_of(p.fate),
+            fate: p.fate,
         }),
         board: after,
     }

@@ -11,7 +11,10 @@ use rules::Core;
 use status::closed;
 
 mod amounts;
+mod ascending;
 mod targets;
+
+pub use ascending::ActiveChannels;
 
 // What an accepted clock is to do: the channels that it gives a value each, as a mask; how many these are; the cursor after it; and
 // whether the values are stored again.

@@ -2,31 +2,33 @@
 // No promise can say what is read or written: that rests on std's contracts, and on the C library below them.
 #![tactic(auto)]
 
-ghost use Rattle.std.specs.Prelude.{min, ◌≡◌, ◌<◌, ◌≤◌, length, take, IfOk};
+ghost use Rattle.std.specs.Prelude.{◌≡◌, ◌<◌, ◌≤◌, length, take, IfOk};
 ghost use Rattle.std.specs.Io.{ReadsAtMost};
 ghost use Rattle.std.specs.Io.KnownBytes.{Consumes, IsAtEnd};
 
 use std::io;
 use std::io::{Print, Read, Write};
 
-// So many bytes; or the reading failed, and that was said.
+// A program that reads standard input and writes standard output, by the name under which it speaks on standard error.
 #[derive(Clone, Copy)]
-pub enum Input {
-    Bytes(usize),
-    Failed,
+pub struct Program<'a> {
+    pub rt: &'a HostRuntime,
+    pub name: &'a str,
 }
 
-// n, or the length of buf where n is more. So a number out of an enum can end a part of buf, with no promise about the enum.
-pub fn within(n: usize, buf: &[u8]) -> usize
-    ensures at_most { result ≤ length buf.now }
-    ensures prefix_len { result ≡ length (take result buf.now) }
-    ensures value { result ≡ min n (length buf.now) }
+// Reading or writing failed, and that was said.
+#[derive(Clone, Copy, Debug, PartialEq, Eq)]
+pub struct Said;
+
+// Room for N bytes. A list of a million zeros is too long for a proof to look at: so its length is promised.
+pub fn room<const N: usize>() -> [u8; N]
+    ensures { N ≡ length result }
 {
-    if n < buf.len() { n } else { buf.len() }
+    [0; N]
 }
 
 // Reads to the end of the input, or until buf is full. Where it is known what the input has, that stands at the front of buf then, and an
-// input that did not fill buf is at its end.
+// input that did not fill buf is at its end. std reads to an end only into a `Vec`, and the room here is fixed: so the loop counts.
 pub fn read_all<R: Read>(input: &mut R, buf: &mut [u8]) -> io::Result<usize>
     ensures bound { ReadsAtMost result buf.new }
     ensures bytes { IfOk result (λ n. Consumes (R.remaining input.old) (R.remaining input.new) (take n buf.new)) }
@@ -45,43 +47,33 @@ pub fn read_all<R: Read>(input: &mut R, buf: &mut [u8]) -> io::Result<usize>
 
 // The system's words for what went wrong. std puts the error's number behind them, in brackets.
 fn words(text: &str) -> &str {
-    match text.split_once(" (os error ") {
-        Some((front, _)) => front,
-        None => text,
-    }
+    text.split_once(" (os error ")
+        .map_or(text, |(front, _)| front)
 }
 
-// A line on standard error. Where that cannot be written either, there is nobody to tell.
-fn say(rt: &HostRuntime, program: &[u8], what: &str, error: io::Error) {
-    let _ = rt.stderr().write_all(program);
-    match format!(in rt.alloc(); "{error}") {
-        Ok(text) => {
-            let _ = eprintln!(rt; ": {what}: {}", words(text.as_str()));
-        }
-        Err(_) => {
-            let _ = eprintln!(rt; ": {what}: {error}");
+impl Program<'_> {
+    // A line on standard error. Where that cannot be written either, there is nobody to tell.
+    fn say(&self, what: &str, error: io::Error) -> Said {
+        let _ = eprint!(self.rt; "{}: {what}: ", self.name);
+        let _ = match format!(in self.rt.alloc(); "{error}") {
+            Ok(text) => eprintln!(self.rt; "{}", words(text.as_str())),
+            Err(_) => eprintln!(self.rt; "{error}"),
+        };
+        Said
+    }
+
+    // The bytes of standard input, as many as there is room for; a failure is said.
+    pub fn read_input<'b>(&self, buf: &'b mut [u8]) -> Result<&'b [u8], Said> {
+        match read_all(&mut self.rt.stdin(), buf) {
+            Ok(n) => Ok(&buf[..n]),
+            Err(e) => Err(self.say("standard input cannot be read", e)),
         }
     }
-}
 
-// Reads standard input; a failure is said.
-pub fn read_input(rt: &HostRuntime, program: &[u8], buf: &mut [u8]) -> Input {
-    match read_all(&mut rt.stdin(), buf) {
-        Ok(n) => Input::Bytes(n),
-        Err(e) => {
-            say(rt, program, "standard input cannot be read", e);
-            Input::Failed
-        }
-    }
-}
-
-// Writes standard output, and answers whether all of it was taken; a failure is said.
-pub fn write_output(rt: &HostRuntime, program: &[u8], text: &[u8]) -> bool {
-    match rt.write_all(text) {
-        Ok(()) => true,
-        Err(e) => {
-            say(rt, program, "standard output cannot be written", e);
-            false
-        }
+    // Writes standard output; a failure is said.
+    pub fn write_output(&self, text: &[u8]) -> Result<(), Said> {
+        self.rt
+            .write_all(text)
+            .map_err(|e| self.say("standard output cannot be written", e))
     }
 }

@@ -2,6 +2,8 @@
 // said in specs/.
 #![tactic(auto)]
 
+use rules::Event;
+
 // Why a file is refused; `as u32` is 01's number of it, as `fault_number` in specs/File.antt says.
 #[derive(Clone, Copy, Debug, PartialEq, Eq)]
 pub enum Fault {
@@ -17,3 +19,7 @@ pub struct FileError {
     pub fault: Fault,
     pub place: usize,
 }
+
+// What stands at a place: an event, with the place of the next record; nothing, where the file ends with its last byte; or why it is
+// refused.
+pub type Item = Result<Option<(Event, usize)>, FileError>;

@@ -10,7 +10,8 @@ use lib.Seq.{set_at, take_all, take_at, append_snoc, drop-cons}
 use borrow.Author.Tests.{lt-leb, le-leb, lt-ltb, le-ltb}
 use Rattle.hex_rules.specs.declared.Mark.{Mark}
 use Rattle.hex_rules.specs.declared.Mark.TheVariants.{Passed, Byte, Fault}
-use Rattle.hex_text.specs.declared.Decoded.TheVariants.{Bytes, Full, Fault as FaultAt}
+use Rattle.std.specs.Prelude.{Ok, Err}
+use Rattle.hex_text.specs.declared.error.HexError.TheVariants.{Full, NotHex}
 use Rattle.hex_rules.specs.Hex.{mark_at, Stop, whole, bad, HexReading, on_mark, hex_from, opening_of, hex_reading}
 use Rattle.hex_text.specs.Promises.{Decodes, on_stop, decoded, laid_over}
 
@@ -112,7 +113,7 @@ module _ (t out₀ out : List ℕ) (at : ℕ) (x : Bool) (n : ℕ) (s : Sofar t 
         }
 
     -- no room is left for the byte that stands at the place
-    pub sofar_full : (b : ℕ) → Byte b ≡ mark_at t at x → length out ≤ n → Decodes t out₀ Full out
+    pub sofar_full : (b : ℕ) → Byte b ≡ mark_at t at x → length out ≤ n → Decodes t out₀ (Err Full) out
     unfolding decoded laid_over
     sofar_full b e r =
         let k = more_bytes b e in
@@ -128,8 +129,8 @@ module _ (t out₀ out : List ℕ) (at : ℕ) (x : Bool) (n : ℕ) (s : Sofar t 
           output = s.laid ∙ (λ i. s.done ++ none i) ∙ sym (λ i. front i ++ beyond i);
         }
 
-    pub sofar_fault : Fault ≡ mark_at t at x → Decodes t out₀ (FaultAt at) out
+    pub sofar_fault : Fault ≡ mark_at t at x → Decodes t out₀ (Err (NotHex at)) out
     sofar_fault e = let k = looked Fault e in decodes_done (bad at) (ap (λ (r : HexReading). r.bytes) k.2) (ap (λ (r : HexReading). r.stop) k.2)
 
-  pub sofar_end : length t ≤ at → Decodes t out₀ (Bytes n) out
+  pub sofar_end : length t ≤ at → Decodes t out₀ (Ok n) out
   sofar_end l = let k = ended s.fuel l in decodes_done whole (ap (λ (r : HexReading). r.bytes) k) (ap (λ (r : HexReading). r.stop) k)

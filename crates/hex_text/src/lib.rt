@@ -3,30 +3,24 @@
 
 ghost use Rattle.hex_text.specs.Promises.{Decodes};
 
+pub use crate::error::HexError;
 use crate::marks::{mark_at, opening};
 use hex_rules::Mark;
 
+mod error;
 mod marks;
 
-// What came of a text: so many bytes, and the text ended; the output was full, and the text says more; or a place at which it is no
-// hex text.
-#[derive(Clone, Copy)]
-pub enum Decoded {
-    Bytes(usize),
-    Full,
-    Fault(usize),
-}
-
-// The bytes that a text says, from the start of out on, as far as there is room and the text is hex text. The rest of out stays.
-pub fn decode(text: &[u8], out: &mut [u8]) -> Decoded
+// The bytes that a text says, from the start of out on, as far as there is room and the text is hex text: how many they are. The rest of
+// out stays.
+pub fn decode(text: &[u8], out: &mut [u8]) -> Result<usize, HexError>
     ensures { Decodes text.now out.old result out.new }
 {
+    // A byte is two characters and a blank is one, and a fault is told by its place: so the place goes on by hand.
     let mut at = opening(text);
     let mut comment = false;
     let mut n: usize = 0;
     while at < text.len() {
-        let mark = mark_at(text, at, comment);
-        match mark {
+        match mark_at(text, at, comment) {
             Mark::Passed(x) => {
                 at += 1;
                 comment = x;
@@ -34,7 +28,7 @@ pub fn decode(text: &[u8], out: &mut [u8]) -> Decoded
             }
             Mark::Byte(b) => {
                 if out.len() <= n {
-                    return Decoded::Full;
+                    return Err(HexError::Full);
                 }
                 out[n] = b;
                 at += 2;
@@ -43,9 +37,9 @@ pub fn decode(text: &[u8], out: &mut [u8]) -> Decoded
                 continue;
             }
             Mark::Fault => {
-                return Decoded::Fault(at);
+                return Err(HexError::NotHex(at));
             }
         }
     }
-    Decoded::Bytes(n)
+    Ok(n)
 }

@@ -8,56 +8,35 @@ use hex_rules::Mark;
 fn char_at(text: &[u8], at: usize) -> u8
     ensures { result ≡ char_at text.now at }
 {
-    if at < text.len() {
-        return text[at];
-    }
-    0
-}
-
-fn worth_of(c: u8) -> u8
-    ensures { result ≡ hex_worth c }
-{
-    if (48 <= c) & (c <= 57) {
-        return c - 48;
-    }
-    if (65 <= c) & (c <= 70) {
-        return c - 55;
-    }
-    if (97 <= c) & (c <= 102) {
-        return c - 87;
-    }
-    16
+    text.get(at).copied().unwrap_or(0)
 }
 
 fn is_control(c: u8, next: u8) -> bool
     ensures { result ≡ is_control c next }
 {
-    ((c < 32) & !((c == 9) | (c == 10) | ((c == 13) & (next == 10)))) | (c == 127)
+    ((c < b' ') & !((c == b'\t') | (c == b'\n') | ((c == b'\r') & (next == b'\n')))) | (c == 127)
 }
 
 fn is_blank(c: u8) -> bool
     ensures { result ≡ is_blank c }
 {
-    (c == 32) | (c == 9) | (c == 10) | (c == 13)
+    (c == b' ') | (c == b'\t') | (c == b'\n') | (c == b'\r')
 }
 
 fn in_comment(before: bool, c: u8) -> bool
     ensures { result ≡ in_comment before c }
 {
-    (before | (c == 35)) & !(c == 10)
+    (before | (c == b'#')) & !(c == b'\n')
 }
 
 // The byte of two digits, the first the more significant.
 fn byte_of(high: u8, low: u8) -> Mark
-    ensures { result ≡ byte_of high low }
+    ensures { result ≡ byte_of (hex_worth high) (hex_worth low) }
 {
-    if 15 < high {
-        return Mark::Fault;
+    match (char::from(high).to_digit(16), char::from(low).to_digit(16)) {
+        (Some(high), Some(low)) => Mark::Byte((16 * high + low) as u8),
+        _ => Mark::Fault,
     }
-    if 15 < low {
-        return Mark::Fault;
-    }
-    Mark::Byte(16 * high + low)
 }
 
 // What a character says, the next one seen, in a comment or not.
@@ -73,7 +52,7 @@ fn mark_of(c: u8, next: u8, comment: bool) -> Mark
     if is_blank(c) {
         return Mark::Passed(false);
     }
-    byte_of(worth_of(c), worth_of(next))
+    byte_of(c, next)
 }
 
 pub(crate) fn mark_at(text: &[u8], at: usize, comment: bool) -> Mark
@@ -87,8 +66,9 @@ pub(crate) fn mark_at(text: &[u8], at: usize, comment: bool) -> Mark
 pub(crate) fn opening(text: &[u8]) -> usize
     ensures { result ≡ opening_of text.now }
 {
-    if (char_at(text, 0) == 239) & (char_at(text, 1) == 187) & (char_at(text, 2) == 191) {
-        return 3;
+    if text.starts_with(&[0xEF, 0xBB, 0xBF]) {
+        3
+    } else {
+        0
     }
-    0
 }

@@ -1,96 +1,56 @@
 // What is wrong with a text, in words on standard error: the line, and the word in it.
-ghost use Rattle.std.specs.Prelude.{◌≤◌};
-
 use std::io;
-
-// 0 past the end of the text
-fn char_at(text: &[u8], at: usize) -> u8 {
-    if at < text.len() {
-        return text[at];
-    }
-    0
-}
 
 // Blanks end a word, and so does the end of the text.
 fn ends_word(c: u8) -> bool {
-    c <= 32
-}
-
-fn one_for_newline(c: u8) -> u64
-    ensures { result ≤ 1 }
-{
-    if c == 10 { 1 } else { 0 }
-}
-
-// Lines are counted from 1, as editors do.
-fn line_of(text: &[u8], at: usize) -> u64 {
-    let mut line: u64 = 1;
-    for i in 0..text.len() {
-        if at <= i {
-            return line;
-        }
-        line += one_for_newline(text[i]);
-    }
-    line
-}
-
-// The place after one, within the text and its end.
-fn next(text: &[u8], at: usize) -> usize {
-    if at < text.len() {
-        return at + 1;
-    }
-    at
-}
-
-// Where the word at a place begins.
-fn word_start(text: &[u8], at: usize) -> usize {
-    let mut i = at;
-    while 0 < i {
-        if ends_word(char_at(text, i - 1)) {
-            return i;
-        }
-        i -= 1;
-    }
-    i
+    c <= b' '
 }
 
 // A character, where a terminal shows it as one; `?` for any other.
-fn say_char(rt: &impl Eprint, c: u8) -> io::Result<()> {
-    let shown = if (32 < c) & (c < 127) {
+fn shown(c: u8) -> char {
+    if c.is_ascii_graphic() {
         char::from(c)
     } else {
         '?'
-    };
-    eprint!(rt; "{shown}")
-}
-
-// The word that begins at a place, and of a long one its first 24 characters.
-fn say_word(rt: &impl Eprint, text: &[u8], start: usize) -> io::Result<()> {
-    let mut at = start;
-    for _ in 0..24 {
-        let c = char_at(text, at);
-        if ends_word(c) {
-            return Ok(());
-        }
-        say_char(rt, c)?;
-        at = next(text, at);
     }
-    eprint!(rt; "..")
 }
 
+// A word in two parts, and of a long one its first 24 characters.
+fn say_word(rt: &impl Eprint, front: &[u8], rest: &[u8]) -> io::Result<()> {
+    for c in front.iter().chain(rest).take(24) {
+        let shown = shown(*c);
+        eprint!(rt; "{shown}")?;
+    }
+    match front.iter().chain(rest).nth(23) {
+        Some(_) => eprint!(rt; ".."),
+        None => Ok(()),
+    }
+}
+
+// The word at a place, of which the one part stands before it.
+fn say_word_at(rt: &impl Eprint, before: &[u8], behind: &[u8]) -> io::Result<()> {
+    let front = before.rsplit(|c| ends_word(*c)).next();
+    let rest = behind.split(|c| ends_word(*c)).next();
+    say_word(rt, front.unwrap_or(before), rest.unwrap_or(behind))
+}
+
+// Lines are counted from 1, as editors do.
 pub(crate) fn say_fault(rt: &impl Eprint, text: &[u8], at: usize) -> io::Result<()> {
-    let line = line_of(text, at);
+    let before = text.get(..at).unwrap_or(text);
+    let behind = text.get(at..).unwrap_or(&[]);
+    let line = before.split(|c| *c == b'\n').count();
     eprint!(rt; "hexbytes: line {line}")?;
-    let c = char_at(text, at);
-    if c == 13 {
-        return eprintln!(rt;
+    match behind.first() {
+        Some(b'\r') => eprintln!(rt;
             ": a carriage return inside the line; a line ends in a new line, or in both"
-        );
+        ),
+        Some(c) if c.is_ascii_control() => {
+            eprintln!(rt; ": a control character, {c:02x}h, which hex text has none of")
+        }
+        _ => {
+            eprint!(rt; ": \"")?;
+            say_word_at(rt, before, behind)?;
+            eprintln!(rt; "\" is not hex: two digits a byte, blanks between, # starts a comment")
+        }
     }
-    if (c < 32) | (c == 127) {
-        return eprintln!(rt; ": a control character, {c:02x}h, which hex text has none of");
-    }
-    eprint!(rt; ": \"")?;
-    say_word(rt, text, word_start(text, at))?;
-    eprintln!(rt; "\" is not hex: two digits a byte, blanks between, # starts a comment")
 }

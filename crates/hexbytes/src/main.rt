@@ -2,60 +2,49 @@
 // says how many bytes they are, or, where it writes none, what is wrong.
 #![tactic(auto)]
 
-ghost use Rattle.std.specs.Prelude.{◌≡◌, length};
-
-use console::{Input, read_input, within, write_output};
+use console::{Program, Said, room};
 use faults::say_fault;
-use hex_text::{Decoded, decode};
+use hex_text::{HexError, decode};
 
 mod faults;
 
-// One byte more than a text may have, so that a longer input shows.
-fn text_room() -> [u8; 1048577]
-    ensures { 1048577 ≡ length result }
-{
-    [0u8; 1048577]
-}
-
-// One byte more than a session file may have, so that a longer one shows, and `rehearse` says so.
-fn bytes_room() -> [u8; 65537]
-    ensures { 65537 ≡ length result }
-{
-    [0u8; 65537]
-}
-
 // A number that cannot be said on standard error is said nowhere.
-fn give(rt: &HostRuntime, bytes: &[u8]) {
-    if write_output(rt, b"hexbytes", bytes) {
-        let n = bytes.len();
-        let _ = eprintln!(rt; "hexbytes: {n} bytes");
+fn give(program: &Program<'_>, bytes: &[u8]) -> Result<(), Said> {
+    program.write_output(bytes)?;
+    let n = bytes.len();
+    let _ = eprintln!(program.rt; "hexbytes: {n} bytes");
+    Ok(())
+}
+
+// There is room for one byte more than a session file may have, so that a longer one shows, and `rehearse` says so.
+fn show(program: &Program<'_>, text: &[u8]) -> Result<(), Said> {
+    let mut out = [0u8; 65537];
+    match decode(text, &mut out) {
+        Ok(n) => give(program, &out[..n.min(out.len())]),
+        Err(HexError::Full) => give(program, &out),
+        Err(HexError::NotHex(at)) => {
+            let _ = say_fault(program.rt, text, at);
+            Ok(())
+        }
     }
 }
 
-fn show(rt: &HostRuntime, text: &[u8]) {
-    let mut out = bytes_room();
-    match decode(text, &mut out) {
-        Decoded::Bytes(n) => {
-            let k = within(n, &out);
-            give(rt, &out[..k]);
-        }
-        Decoded::Full => give(rt, &out),
-        Decoded::Fault(at) => {
-            let _ = say_fault(rt, text, at);
-        }
+// There is room for one byte more than a text may have, so that a longer input shows.
+fn work(program: &Program<'_>) -> Result<(), Said> {
+    let mut buf = room::<1048577>();
+    let text = program.read_input(&mut buf)?;
+    if 1048576 < text.len() {
+        let _ = eprintln!(program.rt;
+            "hexbytes: the text is longer than 1048576 bytes, the most that is read"
+        );
+        return Ok(());
     }
+    show(program, text)
 }
 
 fn main(rt: HostRuntime) {
-    let mut text = text_room();
-    if let Input::Bytes(n) = read_input(&rt, b"hexbytes", &mut text) {
-        if 1048576 < n {
-            let _ = eprintln!(rt;
-                "hexbytes: the text is longer than 1048576 bytes, the most that is read"
-            );
-        } else {
-            let k = within(n, &text);
-            show(&rt, &text[..k]);
-        }
-    }
+    let _ = work(&Program {
+        rt: &rt,
+        name: "hexbytes",
+    });
 }

@@ -10,6 +10,7 @@ use lib.ListN.{length}
 use Rattle.rules.specs.declared.Core.{Core}
 use Rattle.rules.specs.declared.Ring.{Ring}
 use Rattle.rules.specs.Bits.{active_from}
+use Rattle.rules.specs.declared.Fate.TheVariants.{NoLoad as none}
 use Rattle.rules.specs.Parts.{with_burst, with_load, with_outputs}
 use Rattle.rules.specs.Clocks.{Play, closed, next_channel, targets, moving, cursor_after, burst_after, load_after, clock}
 use Rattle.rules.proofs.Choice.{cond_true}
@@ -28,7 +29,8 @@ use Rattle.moves.specs.Deal.{Dealing, dealing, deal_all}
 use Rattle.moves.specs.Promises.{with_levels, joined, Deals}
 use Rattle.moves.proofs.Still.{only_does, clock_none}
 use Rattle.moves.proofs.Dealt.{core_after, dealt_does}
-use Rattle.moves.proofs.Tested.{ready_fits, no_channels}
+use Rattle.channels.proofs.Ones.{no_channels}
+use Rattle.moves.proofs.Tested.{ready_fits}
 
 abbrev pub frame_of : Core → Ring → Frame
 frame_of c ring = record { ring = ring; burst = c.burst; load = c.load }
@@ -82,25 +84,25 @@ module _ (c : Core) (ring : Ring) (d : ℕ) (ls m : List ℕ) (ready : Ready d r
       λ i. with_burst (b i) (with_load (l i) (with_outputs (record { mask = c.outputs.mask; cursor = e i; levels = (same i).levels }) c))
 
   none_moves : to_move c ring.count ≡ 0
-      → Does d (clock (with_levels c ls) buf) ring m (record { core = joined c s.cursor r ls'; ring = r.ring; moved = s.moved; fate = 0 }) m'
-  none_moves none =
-      let e = eq-eqb (to_move c ring.count) 0 none in
+      → Does d (clock (with_levels c ls) buf) ring m (record { core = joined c s.cursor r ls'; ring = r.ring; moved = s.moved; fate = none }) m'
+  none_moves still =
+      let e = eq-eqb (to_move c ring.count) 0 still in
       let same = dealt 0 (ap (λ (x : Serving). x.mask) p.told ∙ mask_none c ring.count e)
       ∙ ap (λ (ks : List ℕ). deal_all c.control.binary (closed c) d ks (dealing ls ring false m)) no_channels ∙ dealt_none _ _ d _ in
       let cursor = ap (λ (x : Serving). x.cursor) p.told ∙ cursor_none c ring.count e in
       let w = only_does (with_levels c ls) d ring m in
-      subst (λ (x : Play). Does d x ring m (record { core = joined c s.cursor r ls'; ring = r.ring; moved = s.moved; fate = 0 }) m')
-      (sym (clock_none (with_levels c ls) buf (same_moving c ls buf ∙ sym moved ∙ none)))
+      subst (λ (x : Play). Does d x ring m (record { core = joined c s.cursor r ls'; ring = r.ring; moved = s.moved; fate = none }) m')
+      (sym (clock_none (with_levels c ls) buf (same_moving c ls buf ∙ sym moved ∙ still)))
       (record {
         core = parts _ _ cursor same ∙ core_still c ls ∙ w.core;
-        moved = ap (λ (x : Serving). x.moved) p.told ∙ moved_told c ring.count ∙ none;
+        moved = ap (λ (x : Serving). x.moved) p.told ∙ moved_told c ring.count ∙ still;
         fate = refl;
         ring = ap (λ (x : Dealing). x.ring) same ∙ w.ring;
         memory = ap (λ (x : Dealing). x.memory) same ∙ w.memory;
       })
 
   some_move : to_move c ring.count ≢ 0
-      → Does d (clock (with_levels c ls) buf) ring m (record { core = joined c s.cursor r ls'; ring = r.ring; moved = s.moved; fate = 0 }) m'
+      → Does d (clock (with_levels c ls) buf) ring m (record { core = joined c s.cursor r ls'; ring = r.ring; moved = s.moved; fate = none }) m'
   some_move some =
       let e = ne_eqb (to_move c ring.count) 0 some in
       let same = dealt (served_by c) (ap (λ (x : Serving). x.mask) p.told ∙ mask_some c ring.count e)
@@ -115,10 +117,10 @@ module _ (c : Core) (ring : Ring) (d : ℕ) (ls m : List ℕ) (ready : Ready d r
         memory = ap (λ (x : Dealing). x.memory) same ∙ w.memory;
       }
 
-  pub clocked_does : Does d (clock (with_levels c ls) buf) ring m (record { core = joined c s.cursor r ls'; ring = r.ring; moved = s.moved; fate = 0 }) m'
+  pub clocked_does : Does d (clock (with_levels c ls) buf) ring m (record { core = joined c s.cursor r ls'; ring = r.ring; moved = s.moved; fate = none }) m'
   clocked_does = go (ℕ_discrete (to_move c ring.count) 0)
     where
       go : Dec (to_move c ring.count ≡ 0)
-          → Does d (clock (with_levels c ls) buf) ring m (record { core = joined c s.cursor r ls'; ring = r.ring; moved = s.moved; fate = 0 }) m'
+          → Does d (clock (with_levels c ls) buf) ring m (record { core = joined c s.cursor r ls'; ring = r.ring; moved = s.moved; fate = none }) m'
       go (yes e) = none_moves e
       go (no n) = some_move n

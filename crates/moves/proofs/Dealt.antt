@@ -13,6 +13,7 @@ use Rattle.rules.specs.Bits.{bit, some}
 use Rattle.rules.specs.Record.{values}
 use Rattle.rules.specs.Parts.{with_burst, with_load, with_outputs}
 use Rattle.rules.specs.Clocks.{leave, recirculate, closed, targets, moving, cursor_after, laid, carries_eof, burst_ends, burst_after, load_after, outgoing, moves, clock}
+use Rattle.rules.specs.declared.Fate.TheVariants.{NoLoad as none}
 use Rattle.rules.specs.Place.{Place, times, place}
 use Rattle.rules.proofs.Steps.{length_values}
 use Rattle.laws.specs.Lists.{Good}
@@ -99,7 +100,7 @@ left_outgoing c d k p = go (closed c)
 abbrev pub answer : Core → ℕ → Ring → List ℕ → ℕ → Played
 answer c d ring m k =
     let x = at_clock c d ring m in
-    record { core = core_after c (cursor_after c) x.levels x.ended; ring = x.ring; moved = k; fate = 0 }
+    record { core = core_after c (cursor_after c) x.levels x.ended; ring = x.ring; moved = k; fate = none }
 
 -- dealing to the targets does what the rules say of a clock that moves values
 pub dealt_does : (c : Core) (d : ℕ) (ring : Ring) (m : List ℕ) → Ready d ring m → moving c (ring_values d ring m) ≢ 0

@@ -2,25 +2,23 @@
 -- turn keeps it.
 use Prim.Native.Nat.{ℕ, zero, suc, ◌/◌, ◌%◌, ◌^◌, ◌<◌}
 use mathlib.Core.Path.{◌≡◌, refl, sym, ap, subst, ◌∙◌}
-use mathlib.Core.Bool.{Bool, true, false, ◌&&◌, ◌||◌}
+use mathlib.Core.Bool.{Bool, ◌||◌}
 use mathlib.Core.List.{List, [], ◌∷◌}
 use native.Mathlib.Nat.{mod-lt}
 use native.Mathlib.Omega.{arith}
-use borrow.Author.Tests.{eq-eqb, ne_eqb, ltb-false}
+use borrow.Author.Tests.{eq-eqb, ne_eqb}
 use lib.Bits.{bit_or, or_shr, or_mod}
-use lib.Count.{count_trailing_zeros}
-use lib.Dec.{eqb, ltb}
+use lib.Dec.{eqb}
 use lib.ListN.{length, set}
-use Rattle.rules.specs.Bits.{bit, active_from}
+use Rattle.rules.specs.Bits.{bit}
 use Rattle.rules.specs.Clocks.{coded}
 use Rattle.rules.specs.declared.Ring.{Ring}
 use Rattle.rules.proofs.Choice.{cond_true, cond_false}
-use Rattle.laws.specs.Search.{without}
-use Rattle.laws.proofs.Search.{without_less, zeros_below, group_zeros}
+use Rattle.laws.specs.Moved.{Among}
+use Rattle.laws.proofs.Among.{among_head, among_tail}
 use Rattle.moves.specs.Ready.{Ready}
 use Rattle.moves.specs.Deal.{Dealing, dealing, front, place_passed, place_now, deal_one, deal_all}
 use Rattle.moves.proofs.Rings.{ready_good, left_placed}
-use Rattle.moves.proofs.Tested.{no_channels}
 
 -- ---- One value
 
@@ -52,16 +50,15 @@ one_dealt binary again d k levels ring marks m v level ring' m' l e r n =
 
 -- ---- The loop
 
--- The channels that wait are those of `waiting`; to deal to them from here is to deal to all from s₀.
-pub record Inv (mask : ℕ) (binary again : Bool) (d : ℕ) (s₀ s : Dealing) (waiting : ℕ) : Type 0 where
-  pub small : waiting < 2 ^ 20
-  pub ready : 0 < waiting → Ready d s.ring s.memory
-  pub same : length s.memory ≡ length s₀.memory
-  pub whole : deal_all binary again d (active_from 0 waiting) s ≡ deal_all binary again d (active_from 0 mask) s₀
+-- The channels ks are still to be served: to deal to them from here is to deal to all, ks₀, from s₀.
+pub record Inv (ks₀ : List ℕ) (binary again : Bool) (d : ℕ) (s₀ s : Dealing) (ks : List ℕ) : Type 0 where
+  pub below : (k : ℕ) → Among k ks → k < 20
+  pub ready : 0 < length ks → Ready d s.ring s.memory
+  pub whole : deal_all binary again d ks s ≡ deal_all binary again d ks₀ s₀
 
-pub inv_start : {mask : ℕ} {binary again : Bool} {d : ℕ} {s : Dealing} → mask < 2 ^ 20 → (0 < mask → Ready d s.ring s.memory)
-    → Inv mask binary again d s s mask
-inv_start h r = record { small = h; ready = r; same = refl; whole = refl }
+pub inv_start : {ks : List ℕ} {binary again : Bool} {d : ℕ} {s : Dealing} → ((k : ℕ) → Among k ks → k < 20)
+    → (0 < length ks → Ready d s.ring s.memory) → Inv ks binary again d s s ks
+inv_start h r = record { below = h; ready = r; whole = refl }
 
 -- nothing is dealt where nothing is stored
 dealt_empty : (binary again : Bool) (d : ℕ) (ks : List ℕ) (s : Dealing) → s.ring.count ≡ 0 → deal_all binary again d ks s ≡ s
@@ -69,38 +66,32 @@ unfolding deal_all
 dealt_empty binary again d [] s h = refl
 dealt_empty binary again d (k ∷ ks) s h = cond_true _ _ _ (eq-eqb s.ring.count 0 h)
 
-module _ {mask : ℕ} {binary again : Bool} {d : ℕ} {s₀ s : Dealing} {waiting : ℕ} (v : Inv mask binary again d s₀ s waiting) where
-  -- the lowest channel that waits
-  pub inv_below : 0 < waiting → count_trailing_zeros 32 waiting < 20
-  inv_below h = zeros_below 20 32 waiting (omega arith) h v.small
+module _ {ks₀ : List ℕ} {binary again : Bool} {d : ℕ} {s₀ s : Dealing} {k : ℕ} {ks : List ℕ} (v : Inv ks₀ binary again d s₀ s (k ∷ ks)) where
+  pub inv_below : k < 20
+  inv_below = v.below k (among_head k ks)
 
-  inv_dealt : 0 < waiting → zero < s.ring.count
-      → Inv mask binary again d s₀ (deal_one binary again d (count_trailing_zeros 32 waiting) s) (without waiting)
+  pub inv_ready : Ready d s.ring s.memory
+  inv_ready = v.ready (omega arith)
+
+  inv_dealt : zero < s.ring.count → Inv ks₀ binary again d s₀ (deal_one binary again d k s) ks
   unfolding deal_one deal_all
-  inv_dealt h n =
-      let r = v.ready h in
-      let m = left_placed again d (place_now s) (ready_good r) n in
+  inv_dealt n =
+      let m = left_placed again d (place_now s) (ready_good inv_ready) n in
       let on = cond_false _ _ _ (ne_eqb s.ring.count 0 (λ e. omega (arith, e, n))) in
       record {
-        small = omega (arith, without_less waiting h, v.small);
-        ready = λ _. record { first = m.good.first_lt; count = m.good.count_le; enough = m.good.enough; small = r.small };
-        same = m.same.long ∙ v.same;
-        whole = sym on ∙ rw ((group_zeros waiting).there (inv_below h)) at v.whole;
+        below = λ j h. v.below j (among_tail j k ks h);
+        ready = λ _. record { first = m.good.first_lt; count = m.good.count_le; enough = m.good.enough; small = inv_ready.small };
+        whole = sym on ∙ v.whole;
       }
 
-  pub inv_turn : {s' : Dealing} → 0 < waiting → zero < s.ring.count → s' ≡ deal_one binary again d (count_trailing_zeros 32 waiting) s
-      → Inv mask binary again d s₀ s' (without waiting)
-  inv_turn {s'} h n e = subst (λ (x : Dealing). Inv mask binary again d s₀ x (without waiting)) (sym e) (inv_dealt h n)
+  pub inv_turn : {s' : Dealing} → zero < s.ring.count → s' ≡ deal_one binary again d k s → Inv ks₀ binary again d s₀ s' ks
+  inv_turn n e = subst (λ (x : Dealing). Inv ks₀ binary again d s₀ x ks) (sym e) (inv_dealt n)
 
-  -- all are dealt, or none is left
-  pub inv_end : ltb 0 waiting && ltb 0 s.ring.count ≡ false → s ≡ deal_all binary again d (active_from 0 mask) s₀
+-- all are dealt, or none is left
+module _ {ks₀ : List ℕ} {binary again : Bool} {d : ℕ} {s₀ s : Dealing} {ks : List ℕ} (v : Inv ks₀ binary again d s₀ s ks) where
+  pub inv_served : ks ≡ [] → s ≡ deal_all binary again d ks₀ s₀
   unfolding deal_all
-  inv_end h = go (ltb 0 waiting) refl
-    where
-      go : (t : Bool) → ltb 0 waiting ≡ t → s ≡ deal_all binary again d (active_from 0 mask) s₀
-      go true e =
-          let z : ltb 0 s.ring.count ≡ false = sym (ap (λ (t : Bool). t && ltb 0 s.ring.count) e) ∙ h in
-          sym (dealt_empty binary again d (active_from 0 waiting) s (omega (arith, ltb-false 0 s.ring.count z))) ∙ v.whole
-      go false e =
-          let z : waiting ≡ 0 = omega (arith, ltb-false 0 waiting e) in
-          rw (ap (active_from 0) z ∙ no_channels) at v.whole
+  inv_served e = rw e at v.whole
+
+  pub inv_empty : s.ring.count ≡ 0 → s ≡ deal_all binary again d ks₀ s₀
+  inv_empty e = sym (dealt_empty binary again d ks s e) ∙ v.whole

@@ -1,6 +1,6 @@
 -- What a load comes to, by its fate: stored at the place after the last value, or lost with nothing changed.
 use Prim.Native.Nat.{ℕ, ◌+◌, ◌%◌}
-use mathlib.Core.Path.{◌≡◌, refl}
+use mathlib.Core.Path.{◌≡◌, refl, ap, ◌∙◌}
 use mathlib.Core.Logic.{◌≢◌}
 use mathlib.Core.Bool.{Bool, true, false, cond}
 use mathlib.Core.List.{List}
@@ -18,15 +18,16 @@ use Rattle.moves.specs.declared.Stored.{Stored}
 use Rattle.moves.specs.Ready.{can_load, fate_of}
 use Rattle.moves.specs.Does.{ring_place}
 use Rattle.moves.specs.Promises.{LoadsOne}
+use Rattle.rules.proofs.Numbered.{same_fate}
 use Rattle.moves.proofs.Tested.{Fitting}
 
 module _ (c : Core) (size : ℕ) (ring : Ring) (d v : ℕ) (m : List ℕ) (r : Stored) (m' : List ℕ) where
-  pub stored_loaded : Fitting c size ring d m → r.fate ≡ 1 → r.ring ≡ record { first = ring.first; count = ring.count + 1 }
+  pub stored_loaded : Fitting c size ring d m → r.fate ≡ was_stored → r.ring ≡ record { first = ring.first; count = ring.count + 1 }
       → m' ≡ set m ((ring.first + ring.count) % d) (v % value_span) → LoadsOne c size ring d v m r m'
   unfolding write_data place
   stored_loaded f e p q =
       record {
-        fate = rw (f.can, f.unclosed, f.unfull) e;
+        fate = rw (f.can, f.unclosed, f.unfull) (ap fate_number e);
         ring = rw (f.can, f.unclosed, f.unfull) p;
         memory = rw (f.can, f.unclosed, f.unfull) q;
       }
@@ -34,13 +35,13 @@ module _ (c : Core) (size : ℕ) (ring : Ring) (d v : ℕ) (m : List ℕ) (r : S
   -- what the rules make of it, p, agrees with the number n
   abbrev Agrees : ℕ → Play → Type 0
   Agrees n p =
-      r.fate ≡ n
+      fate_number r.fate ≡ n
       → n ≢ 1
-      → (r.fate ≡ fate_number p.fate) × (r.ring ≡ (place d p.op (ring_place ring m)).ring) × (m' ≡ (place d p.op (ring_place ring m)).memory)
+      → (fate_number r.fate ≡ fate_number p.fate) × (r.ring ≡ (place d p.op (ring_place ring m)).ring) × (m' ≡ (place d p.op (ring_place ring m)).memory)
 
-  pub lost_loaded : r.ring ≡ ring → m' ≡ m → r.fate ≡ fate_of c size ring d (length m) → fate_of c size ring d (length m) ≢ 1 → LoadsOne c size ring d v m r m'
+  pub lost_loaded : r.ring ≡ ring → m' ≡ m → fate_number r.fate ≡ fate_of c size ring d (length m) → r.fate ≢ was_stored → LoadsOne c size ring d v m r m'
   unfolding fate_of write_data place
-  lost_loaded p q e n = let w = go (can_load size ring d (length m)) (closed c) (leb size ring.count) e n in record { fate = w.0; ring = w.1; memory = w.2 }
+  lost_loaded p q e n = let w = go (can_load size ring d (length m)) (closed c) (leb size ring.count) e (λ one. n (same_fate r.fate was_stored (e ∙ one))) in record { fate = w.0; ring = w.1; memory = w.2 }
     where
       go : (t u w : Bool) → Agrees (cond t (cond u 3 (cond w 2 1)) 0)
           (cond t

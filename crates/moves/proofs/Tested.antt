@@ -1,20 +1,21 @@
 -- The tests of the public functions say just what those below count on; and so what the promises say of a core and a ring that fit.
-use Prim.Native.Nat.{ℕ, ◌%◌, ◌^◌, ◌≤◌, ◌<◌}
-use mathlib.Core.Path.{◌≡◌, refl, sym, ap, ◌∙◌}
-use mathlib.Core.Bool.{Bool, true, false, cond, ◌&&◌}
-use mathlib.Core.List.{List, []}
-use native.Mathlib.Nat.{mod-lt}
+use Prim.Native.Nat.{ℕ, ◌≤◌, ◌<◌}
+use mathlib.Core.Path.{◌≡◌, sym, ap, ◌∙◌}
+use mathlib.Core.Bool.{Bool, true, false, cond}
+use mathlib.Core.List.{List}
 use native.Mathlib.Omega.{arith}
 use borrow.Author.Tests.{leb-true, leb-false, ltb-true, le-leb, lt-ltb}
 use lib.Dec.{leb}
 use lib.ListN.{length}
-use Rattle.rules.specs.Bits.{active, active_from}
+use Rattle.rules.specs.Bits.{active_from}
 use Rattle.rules.specs.declared.Core.{Core}
 use Rattle.rules.specs.declared.Ring.{Ring}
-use Rattle.rules.specs.Clocks.{closed}
+use Rattle.rules.specs.declared.Fate.{Fate}
+use Rattle.rules.specs.declared.Fate.TheVariants.{Stored as was_stored}
+use Rattle.rules.specs.Clocks.{fate_number, closed}
 use Rattle.rules.specs.Writes.{write_data}
 use Rattle.rules.proofs.Choice.{cases, and_both, both_and, all_cons, cons_all, all_nil}
-use Rattle.laws.proofs.Actives.{active_low}
+use Rattle.channels.proofs.Ones.{no_channels}
 use Rattle.moves.specs.Ready.{Ready, fits, can_load, fate_of}
 use Rattle.moves.specs.Promises.{load_of}
 
@@ -35,24 +36,11 @@ ready_fits ring d m r =
     cons_all _ _ (lt-ltb _ _ r.first)
     (cons_all _ _ (le-leb _ _ r.count) (cons_all _ _ (le-leb _ _ r.enough) (cons_all _ _ (le-leb _ _ r.small) all_nil)))
 
--- the mask 0 has no channels
-pub no_channels : active_from 0 0 ≡ []
-unfolding active
-no_channels = refl
-
 -- a channel is served only where the ring lies in the memory
-pub mask_ready : (ring : Ring) (d : ℕ) (m : List ℕ) (mask ks : ℕ) (t : Bool) → t ≡ fits ring d (length m) → ks ≡ cond t mask 0 → 0 < ks → Ready d ring m
-mask_ready ring d m mask ks true e f h = fits_ready ring d m (sym e)
-mask_ready ring d m mask ks false e f h = absurd (omega (arith, f, h))
-
--- none above channel 19
-pub mask_small : (mask ks : ℕ) (t : Bool) → ks ≡ cond t (mask % 2 ^ 20) 0 → ks < 2 ^ 20
-mask_small mask ks true f = rw f (mod-lt mask (omega arith))
-mask_small mask ks false f = omega (arith, f)
-
-pub mask_channels : (mask ks : ℕ) (t : Bool) → ks ≡ cond t (mask % 2 ^ 20) 0 → active_from 0 ks ≡ active_from 0 (cond t mask 0)
-mask_channels mask ks true f = ap (active_from 0) f ∙ active_low 20 0 20 mask (omega arith)
-mask_channels mask ks false f = ap (active_from 0) f
+pub served_ready : (ring : Ring) (d : ℕ) (m : List ℕ) (mask ks : ℕ) (t : Bool) → t ≡ fits ring d (length m) → ks ≡ cond t mask 0
+    → 0 < length (active_from 0 ks) → Ready d ring m
+served_ready ring d m mask ks true e f h = fits_ready ring d m (sym e)
+served_ready ring d m mask ks false e f h = absurd (omega (arith, ap (λ (n : ℕ). length (active_from 0 n)) f, ap (length {A = ℕ}) no_channels, h))
 
 -- ---- A load
 
@@ -66,10 +54,6 @@ ready_load : (size : ℕ) (ring : Ring) (d : ℕ) (m : List ℕ) → Ready d rin
 unfolding can_load
 ready_load size ring d m r s = both_and _ _ (ready_fits ring d m r) (le-leb _ _ s)
 
-pub load_test : (size : ℕ) (ring : Ring) (d len : ℕ) (f : Bool) → f ≡ fits ring d len → f && leb size d ≡ can_load size ring d len
-unfolding can_load
-load_test size ring d len f e = ap (λ (t : Bool). t && leb size d) e
-
 -- a load that is stored has its place
 pub record Fitting (c : Core) (size : ℕ) (ring : Ring) (d : ℕ) (m : List ℕ) : Type 0 where
   pub can : can_load size ring d (length m) ≡ true
@@ -78,7 +62,7 @@ pub record Fitting (c : Core) (size : ℕ) (ring : Ring) (d : ℕ) (m : List ℕ
   pub unfull : leb size ring.count ≡ false
   pub room : ring.count < d
 
-pub fate_says : (c : Core) (size : ℕ) (ring : Ring) (d : ℕ) (m : List ℕ) → fate_of c size ring d (length m) ≡ 1 → Fitting c size ring d m
+fate_says : (c : Core) (size : ℕ) (ring : Ring) (d : ℕ) (m : List ℕ) → fate_of c size ring d (length m) ≡ 1 → Fitting c size ring d m
 unfolding fate_of
 fate_says c size ring d m =
     cases (λ (n : ℕ). n ≡ 1 → Fitting c size ring d m) (can_load size ring d (length m))
@@ -89,6 +73,10 @@ fate_says c size ring d m =
     (λ v h. let r = load_ready_lem size ring d m t in
     record { can = t; ready = r.0; unclosed = u; unfull = v; room = omega (arith, r.1, leb-false size ring.count v) })))
     (λ t h. absurd (omega (arith, h)))
+
+pub stored_fits : {c : Core} {size : ℕ} {ring : Ring} {d : ℕ} {m : List ℕ} {f : Fate}
+    → fate_number f ≡ fate_of c size ring d (length m) → f ≡ was_stored → Fitting c size ring d m
+stored_fits {c} {size} {ring} {d} {m} e s = fate_says c size ring d m (sym e ∙ ap fate_number s)
 
 -- on a ring that fits, a load is what the rules say of it
 pub load_whole : (c : Core) (size : ℕ) (ring : Ring) (d v : ℕ) (m : List ℕ) → Ready d ring m → size ≤ d

@@ -4,6 +4,7 @@ use mathlib.Core.Bool.{Bool}
 use Rattle.rules.specs.Clocks.{burst_after, load_after}
 use Rattle.rules.proofs.Equal.{determined}
 use Rattle.moves.specs.Deal.{Dealing}
+use Rattle.rules.proofs.Numbered.{same_fate}
 use Rattle.moves.specs.Unique.{Deals-unique, LoadsOne-unique}
 
 pub deals_unique : Deals-unique
@@ -16,6 +17,6 @@ deals_unique mask x binary again d ls m r r' ls₁ ls₂ n n' p q =
 
 pub loads_one_unique : LoadsOne-unique
 loads_one_unique c size ring d v m r r' n n' p q =
-    let fates = determined p.fate q.fate in
+    let fates = same_fate _ _ (determined p.fate q.fate) in
     let rings = determined p.ring q.ring in
     (λ i. record { fate = fates i; ring = rings i }, determined p.memory q.memory)

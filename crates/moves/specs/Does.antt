@@ -14,7 +14,7 @@ ring_place ring m = record { ring = ring; memory = m }
 pub record Does (d : ℕ) (p : Play) (at : Ring) (m : List ℕ) (r : Played) (m' : List ℕ) : Type 0 where
   pub core : r.core ≡ p.core
   pub moved : r.moved ≡ p.moved
-  pub fate : r.fate ≡ fate_number p.fate
+  pub fate : fate_number r.fate ≡ fate_number p.fate
   pub ring : r.ring ≡ (place d p.op (ring_place at m)).ring
   pub memory : m' ≡ (place d p.op (ring_place at m)).memory
 

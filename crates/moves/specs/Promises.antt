@@ -45,6 +45,6 @@ abbrev pub load_of : Core → ℕ → Ring → ℕ → ℕ → ℕ → Play
 load_of c size ring d v len = cond (can_load size ring d len) (write_data c (leb size ring.count) v) (only c)
 
 pub record LoadsOne (c : Core) (size : ℕ) (at : Ring) (d v : ℕ) (m : List ℕ) (r : Stored) (m' : List ℕ) : Type 0 where
-  pub fate : r.fate ≡ fate_number (load_of c size at d v (length m)).fate
+  pub fate : fate_number r.fate ≡ fate_number (load_of c size at d v (length m)).fate
   pub ring : r.ring ≡ (place d (load_of c size at d v (length m)).op (ring_place at m)).ring
   pub memory : m' ≡ (place d (load_of c size at d v (length m)).op (ring_place at m)).memory

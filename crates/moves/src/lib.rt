@@ -6,9 +6,10 @@ ghost use Rattle.moves.specs.Promises.{Deals, LoadsOne};
 
 use crate::fates::fate_of;
 use crate::frames::{burst_after, coded, load_after};
-use crate::limits::{fits, mask_if};
+use crate::limits::fits;
 use crate::ring::{pass, wrapped};
-use rules::{Burst, Core, Load, Ring};
+use channels::ActiveChannels;
+use rules::{Burst, Core, Fate, Load, Ring};
 
 mod fates;
 mod frames;
@@ -21,7 +22,7 @@ pub struct Played {
     pub core: Core,
     pub ring: Ring,
     pub moved: u32,
-    pub fate: u32,
+    pub fate: Fate,
 }
 
 // What values that leave change beside the levels and the memory.
@@ -35,7 +36,7 @@ pub struct Frame {
 // What a load came to: its fate, and the ring after it.
 #[derive(Clone, Copy)]
 pub struct Stored {
-    pub fate: u32,
+    pub fate: Fate,
     pub ring: Ring,
 }
 
@@ -54,26 +55,27 @@ pub fn deal(
 ) -> Frame
     ensures { Deals mask x binary again d levels.old memory.old result levels.new memory.new }
 {
+    let served = if fits(x.ring, d, memory.len()) {
+        mask
+    } else {
+        0
+    };
     let mut ring = x.ring;
-    let mut marks: u32 = 0;
-    let mut waiting = mask_if(fits(ring, d, memory.len()), mask % 1048576);
-    while (0 < waiting) & (0 < ring.count) {
-        let k = u32::trailing_zeros(waiting);
+    let mut marks = 0;
+    for k in ActiveChannels::of(served) {
+        if ring.count == 0 {
+            break;
+        }
         let passed = pass(ring, again, d, memory);
-        let at = k as usize;
-        levels[at] = coded(binary, passed.value);
-        marks = marks | passed.value;
-        let after = passed.ring;
-        ring = after;
-        waiting = waiting & (waiting - 1);
+        levels[k] = coded(binary, passed.value);
+        marks |= passed.value;
+        ring = passed.ring;
     }
     let ended = marks / 65536 % 2 == 1;
-    let burst = x.burst;
-    let load = x.load;
     Frame {
-        ring: ring,
-        burst: burst_after(ended, burst),
-        load: load_after(ended, load),
+        ring,
+        burst: burst_after(ended, x.burst),
+        load: load_after(ended, x.load),
     }
 }
 
@@ -83,19 +85,16 @@ pub fn load(c: Core, size: u32, ring: Ring, d: u32, v: u32, memory: &mut [u32]) 
     ensures { LoadsOne c size ring d v memory.old result memory.new }
 {
     let fate = fate_of(c, size, ring, d, memory.len());
-    if fate == 1 {
-        let at = wrapped(ring.first + ring.count, d) as usize;
-        memory[at] = v % 131072;
-        return Stored {
-            fate: 1,
-            ring: Ring {
-                first: ring.first,
-                count: ring.count + 1,
-            },
-        };
-    }
-    Stored {
-        fate: fate,
-        ring: ring,
+    match fate {
+        Fate::Stored => {
+            let at = wrapped(ring.first + ring.count, d) as usize;
+            memory[at] = v % 131072;
+            let count = ring.count + 1;
+            Stored {
+                fate,
+                ring: Ring { count, ..ring },
+            }
+        }
+        _ => Stored { fate, ring },
     }
 }

@@ -12,10 +12,7 @@ pub(crate) fn wrapped(x: u32, d: u32) -> u32
     requires { x < d + d }
     ensures { (result ≡ x % d) × (result < d) }
 {
-    if x < d {
-        return x;
-    }
-    x - d
+    if x < d { x } else { x - d }
 }
 
 // The place after one: x mod depth for an x of at most one lap, in fewer steps than `wrapped`, since the next value waits for it.
@@ -23,10 +20,7 @@ pub(crate) fn stepped(x: u32, d: u32) -> u32
     requires { (0 < x) × (x ≤ d) }
     ensures { (result ≡ x % d) × (result < d) }
 {
-    if x == d {
-        return 0;
-    }
-    x
+    if x == d { 0 } else { x }
 }
 
 // The value that left the front of the ring, and the ring after it.
@@ -41,26 +35,17 @@ pub(crate) fn pass(ring: Ring, again: bool, d: u32, memory: &mut [u32]) -> Depar
     requires { Ready d ring memory.old × (0 < ring.count) }
     ensures { (result.value ≡ get_or memory.old ring.first 0 % value_span) × (result.ring ≡ (place_passed again d (ring_place ring memory.old)).ring) × (memory.new ≡ (place_passed again d (ring_place ring memory.old)).memory) }
 {
-    let first = ring.first as usize;
-    let v = memory[first] % 131072;
-    let next = stepped(ring.first + 1, d);
+    let value = memory[ring.first as usize] % 131072;
+    let first = stepped(ring.first + 1, d);
     let rest = ring.count - 1;
-    if again {
-        let at = wrapped(next + rest, d) as usize;
-        memory[at] = v;
-        return Departed {
-            value: v,
-            ring: Ring {
-                first: next,
-                count: rest + 1,
-            },
-        };
-    }
+    let count = if again {
+        memory[wrapped(first + rest, d) as usize] = value;
+        rest + 1
+    } else {
+        rest
+    };
     Departed {
-        value: v,
-        ring: Ring {
-            first: next,
-            count: rest,
-        },
+        value,
+        ring: Ring { first, count },
     }
 }

@@ -5,54 +5,60 @@ ghost use Rattle.rules.specs.Play.{calibration_ends, settles};
 ghost use Rattle.plans.specs.Parts.{clocks_if};
 ghost use Rattle.plans.specs.Plan.{signal_plan};
 
-use crate::choose::pick_burst;
 use crate::states::{clock_accepted, trigger_accepted};
 use crate::{Act, Plan};
-use rules::{Burst, Core, Signal};
+use rules::{Burst, Calibration, Clock, Core, Signal};
 use status::tick_accepted;
 
 // 01: "Clocks and triggers that are not accepted answer 0 and change nothing."
+#[tactic(auto, unfolding(crate::specs::Parts::clocks_if))]
 pub(crate) fn clocks_if(accepted: bool) -> Act
     ensures { result ≡ clocks_if accepted }
 {
-    if accepted {
-        return Act::Clocks;
-    }
-    Act::Nothing
+    if accepted { Act::Clocks } else { Act::Nothing }
 }
 
+#[tactic(auto, unfolding(rules::specs::Clocks::on_trigger))]
 pub(crate) fn on_trigger(c: Core) -> Core
     ensures { result ≡ (on_trigger c).core }
 {
-    let started = Burst {
-        running: true,
-        software: false,
+    let burst = if trigger_accepted(c) {
+        Burst {
+            running: true,
+            software: false,
+        }
+    } else {
+        c.burst
     };
-    let burst = c.burst;
-    let mut k = c;
-    let next = pick_burst(trigger_accepted(c), started, burst);
-    k.burst = next;
-    k
+    Core { burst, ..c }
 }
 
 // 01: "A calibration end clears D13, sets "calibrated" and sets D14 on failure."
+#[tactic(auto, unfolding(rules::specs::Play::calibration_ends))]
 pub(crate) fn calibration_ends(c: Core, failure: bool) -> Core
     ensures { result ≡ (calibration_ends c failure).core }
 {
-    let failed = c.calibration.failed | failure;
-    let mut k = c;
-    k.calibration.running = false;
-    k.calibration.failed = failed;
-    k.calibration.calibrated = true;
-    k
+    Core {
+        calibration: Calibration {
+            running: false,
+            failed: c.calibration.failed | failure,
+            calibrated: true,
+        },
+        ..c
+    }
 }
 
+#[tactic(auto, unfolding(rules::specs::Play::settles))]
 pub(crate) fn settled(c: Core) -> Core
     ensures { result ≡ (settles c).core }
 {
-    let mut k = c;
-    k.clock.settling = false;
-    k
+    Core {
+        clock: Clock {
+            settling: false,
+            ..c.clock
+        },
+        ..c
+    }
 }
 
 pub(crate) fn on_signal(c: Core, x: Signal) -> Plan
@@ -67,21 +73,9 @@ pub(crate) fn on_signal(c: Core, x: Signal) -> Plan
             core: c,
             act: clocks_if(clock_accepted(c)),
         },
-        Signal::Trigger => Plan {
-            core: on_trigger(c),
-            act: Act::Nothing,
-        },
-        Signal::Passed => Plan {
-            core: calibration_ends(c, false),
-            act: Act::Nothing,
-        },
-        Signal::Failed => Plan {
-            core: calibration_ends(c, true),
-            act: Act::Nothing,
-        },
-        Signal::Settled => Plan {
-            core: settled(c),
-            act: Act::Nothing,
-        },
+        Signal::Trigger => Plan::core_alone(on_trigger(c)),
+        Signal::Passed => Plan::core_alone(calibration_ends(c, false)),
+        Signal::Failed => Plan::core_alone(calibration_ends(c, true)),
+        Signal::Settled => Plan::core_alone(settled(c)),
     }
 }

@@ -3,6 +3,7 @@
 #![tactic(auto)]
 
 ghost use Rattle.rules.specs.ToldInNumbers.{ToldInNumbers};
+ghost use Rattle.file_rules.specs.Item.{item_of};
 ghost use Rattle.file_rules.specs.File.{item_at};
 ghost use Rattle.file_rules.specs.Numbers.{item_numbers};
 ghost use Rattle.reader.specs.Promises.{Opened};
@@ -25,14 +26,14 @@ pub fn open<'a>(bytes: &'a [u8], place: usize) -> Reader<'a>
 
 // The record at the reader's place.
 pub fn item<'a>(r: Reader<'a>) -> Item
-    ensures { ToldInNumbers item_numbers (item_at r.entry.bytes.now r.entry.place) result }
+    ensures { ToldInNumbers item_numbers (item_at r.entry.bytes.now r.entry.place) (item_of result) }
 {
     item_at(r.bytes, r.place)
 }
 
 // The record at a place of these bytes.
 pub fn read_at(s: &[u8], at: usize) -> Item
-    ensures { ToldInNumbers item_numbers (item_at s.now at) result }
+    ensures { ToldInNumbers item_numbers (item_at s.now at) (item_of result) }
 {
     item(open(s, at))
 }

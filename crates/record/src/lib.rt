@@ -7,73 +7,13 @@ ghost use Rattle.rules.specs.Record.{fitted_in_range, code_in_range, firmware_in
 ghost use Rattle.rules.specs.Told.{Told};
 ghost use Rattle.record.specs.Capped.{capped_board};
 
-use rules::{
-    Board, Burst, Calibration, Clock, Control, Core, Load, Lost, Mode, Options, Outputs, Ring, Size,
-};
+use rules::Board;
 
 // The record that a run starts from. 01: "The unpowered record is all zero."
 pub fn unpowered() -> Board
     ensures { Told unpowered result }
 {
-    let core = Core {
-        powered: false,
-        options: Options {
-            range: 0,
-            filter: 0,
-            kit: 0,
-            firmware: 0,
-        },
-        control: Control {
-            bursts: false,
-            ground_sense: false,
-            binary: false,
-            differential: false,
-            barred: false,
-            simultaneous: false,
-            selection: 0,
-        },
-        mode: Mode {
-            external: false,
-            enabled: false,
-            circular: false,
-        },
-        calibration: Calibration {
-            running: false,
-            failed: false,
-            calibrated: false,
-        },
-        clock: Clock {
-            divisor: 0,
-            nclk: 0,
-            alt: false,
-            settling: false,
-        },
-        burst: Burst {
-            running: false,
-            software: false,
-        },
-        load: Load {
-            pending: false,
-            opened: false,
-        },
-        lost: Lost {
-            full: false,
-            closed: false,
-        },
-        outputs: Outputs {
-            mask: 0,
-            cursor: 0,
-            levels: [0; 20],
-        },
-    };
-    let size = Size { fitted: 0, code: 0 };
-    let ring = Ring { first: 0, count: 0 };
-    Board {
-        core: core,
-        size: size,
-        request: false,
-        ring: ring,
-    }
+    Board::default()
 }
 
 // 01: "a fitted code d (0 to 15), range, filter and kit codes (0 to 2) and a firmware number (0 to 4095)"
@@ -96,13 +36,11 @@ pub fn firmware_in_range(n: u32) -> bool
 }
 
 // 01: "The depth is 8·2^d values." A code that is out of range counts as 15.
+#[tactic(auto, unfolding(rules::specs::Record::depth_of))]
 pub fn depth_of(d: u32) -> u32
     ensures { Told (depth_of (min d 15)) result }
 {
-    if fitted_in_range(d) {
-        return 8u32 << d;
-    }
-    262144
+    8 << d.min(15)
 }
 
 // The depth of a record.
@@ -113,14 +51,13 @@ pub fn depth(b: Board) -> u32
 }
 
 // One more than the highest mask of a kit's channels.
+#[tactic(auto, unfolding(rules::specs::Record::channels))]
 pub fn mask_limit(kit: u32) -> u32
     ensures { Told (2 ^ channels kit) result }
 {
-    if kit == 0 {
-        return 64;
+    match kit {
+        0 => 64,
+        1 => 4096,
+        _ => 1048576,
     }
-    if kit == 1 {
-        return 4096;
-    }
-    1048576
 }

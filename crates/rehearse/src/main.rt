@@ -2,45 +2,30 @@
 // read, that is said on standard error and nothing is listed.
 #![tactic(auto)]
 
-ghost use Rattle.std.specs.Prelude.{◌≡◌, length};
-
-use console::{Input, read_input, within, write_output};
+use console::{Program, Said, room};
 use listing::Listed;
 
-// One byte more than a file may have, so that a longer input shows.
-fn file_room() -> [u8; 65537]
-    ensures { 65537 ≡ length result }
-{
-    [0u8; 65537]
-}
-
-fn memory_room() -> [u32; 16384]
-    ensures { 16384 ≡ length result }
-{
-    [0u32; 16384]
-}
-
-// As much as the listing of the longest file asks for.
-fn output_room() -> [u8; 1441952]
-    ensures { 1441952 ≡ length result }
-{
-    [0u8; 1441952]
-}
-
-fn show(rt: &HostRuntime, file: &[u8]) {
-    let mut memory = memory_room();
-    let mut out = output_room();
-    // never `Short` with the room above
-    if let Listed::Text(n) = listing::list(file, &mut memory, &mut out) {
-        let k = within(n, &out);
-        write_output(rt, b"rehearse", &out[..k]);
+// There is as much room as the listing of the longest file asks for, and in the memory for the buffer of fitted code 11.
+fn show(program: &Program<'_>, file: &[u8]) -> Result<(), Said> {
+    let mut memory = [0u32; 16384];
+    let mut out = room::<1441952>();
+    match listing::list(file, &mut memory, &mut out) {
+        Listed::Text(n) => program.write_output(&out[..n.min(out.len())]),
+        // never with the room above
+        Listed::Short(_) => Ok(()),
     }
+}
+
+// There is room for one byte more than a file may have, so that a longer input shows.
+fn work(program: &Program<'_>) -> Result<(), Said> {
+    let mut buf = [0u8; 65537];
+    let file = program.read_input(&mut buf)?;
+    show(program, file)
 }
 
 fn main(rt: HostRuntime) {
-    let mut file = file_room();
-    if let Input::Bytes(n) = read_input(&rt, b"rehearse", &mut file) {
-        let k = within(n, &file);
-        show(&rt, &file[..k]);
-    }
+    let _ = work(&Program {
+        rt: &rt,
+        name: "rehearse",
+    });
 }

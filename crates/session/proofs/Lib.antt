@@ -1,3 +1,4 @@
 -- What the functions' proofs cite.
 pub mod Opening
+pub mod Events
 pub mod Commonest

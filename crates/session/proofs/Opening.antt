@@ -1,29 +1,25 @@
--- What stands at a place, by whether it is the start of a file that does not begin with 01.
-use Prim.Native.Nat.{ℕ, zero, suc}
-use mathlib.Core.Path.{◌≡◌, refl, sym, ap}
-use mathlib.Core.Bool.{true, false, not, cond, ◌&&◌}
+-- What stands at the start of a file, by its first byte.
+use Prim.Native.Nat.{ℕ}
+use mathlib.Core.Path.{◌≡◌, refl}
+use mathlib.Core.Logic.{◌≢◌}
 use mathlib.Core.List.{List, [], ◌∷◌}
-use native.Mathlib.Omega.{arith}
-use borrow.Author.Tests.{eqb-true, ne_eqb, not-true, not-false}
-use lib.Dec.{eqb}
-use lib.ListN.{length}
-use Rattle.rules.proofs.Choice.{and_both, cond_true, cond_false}
+use borrow.Author.Tests.{eq-eqb}
+use Rattle.std.specs.Prelude.{slice_get, unwrap_or}
+use Rattle.rules.proofs.Choice.{cond_true}
 use Rattle.file_rules.specs.declared.Fault.TheVariants.{Version}
-use Rattle.file_rules.specs.Item.{Refused}
-use Rattle.file_rules.specs.Item.{Over}
+use Rattle.file_rules.specs.Item.{Refused, Over}
 use Rattle.file_rules.specs.File.{byte_at, record_at, item_at}
+use Rattle.file_rules.specs.Laws.{bad_version}
+use Rattle.file_rules.proofs.Given.{given_item}
 
--- an empty file has no first byte
-pub no_first : (s : List ℕ) → length s ≡ zero → eqb (byte_at s 0) 1 ≡ false
-no_first [] h = refl
-no_first (x ∷ xs) h = absurd (omega arith)
+-- an empty file's first byte counts as 0
+pub first_byte : (s : List ℕ) → unwrap_or (slice_get s 0) 0 ≡ byte_at s 0
+first_byte [] = refl
+first_byte (x ∷ xs) = refl
 
-pub not_opened : (s : List ℕ) (at : ℕ) → eqb at 0 && not (eqb (byte_at s 0) 1) ≡ true → item_at s at ≡ Over (Refused Version 0)
+pub not_opened : (s : List ℕ) → byte_at s 0 ≢ 1 → item_at s 0 ≡ Over (Refused Version 0)
+not_opened s h = given_item s _ _ (bad_version h)
+
+pub opened : (s : List ℕ) → byte_at s 0 ≡ 1 → item_at s 0 ≡ record_at s 1
 unfolding item_at
-not_opened s zero h = cond_false _ _ _ (not-true (eqb (byte_at s 0) 1) h)
-not_opened s (suc at) h = absurd (omega (arith, eqb-true (suc at) 0 (and_both (eqb (suc at) 0) _ h).0))
-
-pub opened : (s : List ℕ) (at : ℕ) → eqb at 0 && not (eqb (byte_at s 0) 1) ≡ false → item_at s at ≡ record_at s (cond (eqb at 0) 1 at)
-unfolding item_at
-opened s zero h = cond_true _ _ _ (not-false (eqb (byte_at s 0) 1) h)
-opened s (suc at) h = ap (record_at s) (sym (cond_false _ _ _ (ne_eqb (suc at) 0 (λ e. absurd (omega (arith, e))))))
+opened s h = cond_true _ _ _ (eq-eqb _ _ h)

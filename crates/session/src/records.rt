@@ -1,64 +1,46 @@
 // The records of a file.
-ghost use Rattle.std.specs.Prelude.{◌≡◌, cond, eqb};
-ghost use Rattle.file_rules.specs.Item.{Refused};
-ghost use Rattle.file_rules.specs.Item.{Over};
-ghost use Rattle.file_rules.specs.File.{byte_at, record_at};
+ghost use Rattle.std.specs.Prelude.{◌≡◌, ◌<◌};
+ghost use Rattle.file_rules.specs.Item.{item_of};
+ghost use Rattle.file_rules.specs.File.{record_at};
 
 use crate::fields::{byte_at, event_at, word_at};
-use file_rules::{End, Fault, Item};
-use kinds::length_of;
+use file_rules::{Fault, FileError, Item};
+use kinds::Kind;
 
-pub(crate) fn refused(why: Fault, at: usize) -> Item
-    ensures { result ≡ Over (Refused why at) }
-{
-    Item::Over(End::Refused(why, at))
-}
-
-// 01: "then per record 11, length 0 (12), 13, 12". A length that is not 0 and is that of the kind says that the kind is known: an event,
-// as most records are, is asked for first.
+// 01: "then per record 11, length 0 (12), 13, 12".
 pub(crate) fn record_at(s: &[u8], at: usize) -> Item
-    ensures { result ≡ record_at s.now at }
+    ensures { item_of result ≡ record_at s.now at }
 {
     if s.len() <= at {
-        return Item::Over(End::File);
+        return Ok(None);
     }
     let left = s.len() - at;
+    let cut = FileError {
+        fault: Fault::Cut,
+        place: at,
+    };
     if left < 2 {
-        return refused(Fault::Cut, at);
+        return Err(cut);
     }
-    let n = word_at(s, at);
-    if left - 2 < n as usize {
-        return refused(Fault::Cut, at);
+    let n = usize::from(word_at(s, at));
+    if left - 2 < n {
+        return Err(cut);
     }
+    let wrong_length = FileError {
+        fault: Fault::Length,
+        place: at,
+    };
     if n == 0 {
-        return refused(Fault::Length, at);
+        return Err(wrong_length);
     }
-    let want = length_of(byte_at(s, at + 2));
-    if n == want {
-        return Item::Got(event_at(s, at + 2), at + 2 + n as usize);
+    let Ok(kind) = Kind::try_from(byte_at(s, at + 2)) else {
+        return Err(FileError {
+            fault: Fault::Kind,
+            place: at,
+        });
+    };
+    if n != kind.length() as usize {
+        return Err(wrong_length);
     }
-    if want == 0 {
-        return refused(Fault::Kind, at);
-    }
-    refused(Fault::Length, at)
-}
-
-// 01: "10 session file empty or its first byte not 01"
-pub(crate) fn opened(s: &[u8]) -> bool
-    ensures { result ≡ eqb (byte_at s.now 0) 1 }
-{
-    if s.len() == 0 {
-        return false;
-    }
-    byte_at(s, 0) == 1
-}
-
-// 01: "Byte 01, then records": at the start of the file the first record is meant.
-pub(crate) fn behind(at: usize) -> usize
-    ensures { result ≡ cond (eqb at 0) 1 at }
-{
-    if at == 0 {
-        return 1;
-    }
-    at
+    Ok(Some((event_at(s, at + 2, kind), at + 2 + n)))
 }

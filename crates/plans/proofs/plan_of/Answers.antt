@@ -4,7 +4,7 @@ use Rattle.plans.proofs.plan_of.Goals as goal
 
 pub returns-in-PowerUp : goal.returns-in-PowerUp
 unfolding planned
-returns-in-PowerUp c = record { told = rw (c.initial.ensures, c.in-PowerUp.is) }
+returns-in-PowerUp c = record { told = rw c.in-PowerUp.is c.initial.ensures }
 
 pub returns-in-Write : goal.returns-in-Write
 unfolding planned
@@ -12,7 +12,7 @@ returns-in-Write c = record { told = rw c.in-Write.is c.on_write.ensures }
 
 pub returns-in-Read : goal.returns-in-Read
 unfolding planned
-returns-in-Read c = record { told = rw c.in-Read.is }
+returns-in-Read c = record { told = rw c.in-Read.is c.core_alone.ensures }
 
 pub returns-in-Signal : goal.returns-in-Signal
 unfolding planned

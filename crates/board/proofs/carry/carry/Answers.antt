@@ -9,31 +9,15 @@ use Rattle.plans.specs.Parts.{carried, MovesOrStores}
 use Rattle.board.proofs.Losing.{load_does}
 use Rattle.board.proofs.carry.carry.Goals as goal
 
-pub serve-s-requires : goal.serve-s-requires
-serve-s-requires c = tt
-
-pub deal-x-requires : goal.deal-x-requires
-deal-x-requires c = tt
-
-pub clocked-requires : goal.clocked-requires
-clocked-requires c = tt
-
-pub active_size-requires : goal.active_size-requires
-active_size-requires c = tt
-
-pub load-s-requires : goal.load-s-requires
-load-s-requires c = tt
-
-pub lost_by-requires : goal.lost_by-requires
-lost_by-requires c = tt
-
 pub returns-in-Nothing : goal.returns-in-Nothing
 unfolding carried
 returns-in-Nothing c = rw c.in-Nothing.is (only_does _ _ _ _)
 
 pub returns-in-Empties : goal.returns-in-Empties
 unfolding carried place
-returns-in-Empties c = rw c.in-Empties.is (record { core = refl; moved = refl; fate = refl; ring = refl; memory = refl })
+returns-in-Empties c =
+    let zero = c.default.ensures in
+    rw c.in-Empties.is (record { core = refl; moved = refl; fate = refl; ring = λ i. record { first = zero.0 i; count = zero.1 i }; memory = refl })
 
 pub returns-in-Clocks : goal.returns-in-Clocks
 unfolding carried MovesOrStores

@@ -28,7 +28,5 @@ returns c =
       sym c.is_control.ensures ∙ c.if-is_control.false,
       sym c.in_comment.ensures ∙ c.if-in_comment.false,
       sym c.is_blank.ensures ∙ c.if-is_blank.false,
-      ← c.worth_of.ensures,
-      ← c.worth_of-2.ensures,
     )
     c.byte_of.ensures

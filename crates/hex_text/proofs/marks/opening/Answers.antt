@@ -1,23 +1,10 @@
--- The three characters are those of the definition.
-use Rattle.hex_rules.specs.Hex.{opening_of}
+-- std's test is the definition's.
+use mathlib.Core.Path.{sym, ◌∙◌}
+use Rattle.hex_text.proofs.Opens.{opened, unopened}
 use Rattle.hex_text.proofs.marks.opening.Goals as goal
 
-pub returns-then-char_at : goal.returns-then-char_at
-unfolding opening_of
-returns-then-char_at c =
-    rw (
-      ← c.char_at.ensures,
-      ← c.char_at-2.ensures,
-      ← c.char_at-3.ensures,
-      c.if-char_at.true,
-    )
+pub returns-then-starts_with : goal.returns-then-starts_with
+returns-then-starts_with c = opened _ (sym c.starts_with.ensures.value ∙ c.if-starts_with.true)
 
-pub returns : goal.returns
-unfolding opening_of
-returns c =
-    rw (
-      ← c.char_at.ensures,
-      ← c.char_at-2.ensures,
-      ← c.char_at-3.ensures,
-      c.if-char_at.false,
-    )
+pub returns-else-starts_with : goal.returns-else-starts_with
+returns-else-starts_with c = unopened _ (sym c.starts_with.ensures.value ∙ c.if-starts_with.false)

@@ -6,9 +6,7 @@ use Rattle.listing_rules.specs.Text.{levels_in}
 use Rattle.file_rules.specs.Pieces.{Piece}
 use Rattle.lines.proofs.whole.write_levels.Given as goal
 
-abbrev pub invariant-loop-k : goal.invariant-loop-k
-invariant-loop-k l = (l.k ≤ 20) × (l.p + (101 - 5 * l.k) ≤ length l.out)
-    × ((o : List ℕ) (q : ℕ) → Piece l.out l.p (levels_in (drop l.k l.levels)) o q → Piece l.initial.out l.initial.p (levels_in l.levels) o q)
-
-abbrev pub decreases-loop-k : goal.decreases-loop-k
-decreases-loop-k l = 20 - l.k
+abbrev pub invariant-loop-level : goal.invariant-loop-level
+invariant-loop-level l =
+    (l.p + (101 - 5 * l.level-index) ≤ length l.out)
+    × ((o : List ℕ) (q : ℕ) → Piece l.out l.p (levels_in (drop l.level-index l.level-items)) o q → Piece l.initial.out l.initial.p (levels_in l.level-items) o q)

@@ -13,16 +13,16 @@ returns-in-Outside c = rw (c.clocks_if-in-Outside.ensures, c.clock_accepted.ensu
 
 pub returns-in-Trigger : goal.returns-in-Trigger
 unfolding signal_plan
-returns-in-Trigger c = rw (c.on_trigger.ensures, c.in-Trigger.is) refl
+returns-in-Trigger c = rw (c.core_alone.ensures, c.on_trigger.ensures, c.in-Trigger.is) refl
 
 pub returns-in-Passed : goal.returns-in-Passed
 unfolding signal_plan
-returns-in-Passed c = rw (c.calibration_ends.ensures, c.in-Passed.is) refl
+returns-in-Passed c = rw (c.core_alone-in-Passed.ensures, c.calibration_ends.ensures, c.in-Passed.is) refl
 
 pub returns-in-Failed : goal.returns-in-Failed
 unfolding signal_plan
-returns-in-Failed c = rw (c.calibration_ends-in-Failed.ensures, c.in-Failed.is) refl
+returns-in-Failed c = rw (c.core_alone-in-Failed.ensures, c.calibration_ends-in-Failed.ensures, c.in-Failed.is) refl
 
 pub returns-in-Settled : goal.returns-in-Settled
 unfolding signal_plan
-returns-in-Settled c = rw (c.settled.ensures, c.in-Settled.is) refl
+returns-in-Settled c = rw (c.core_alone-in-Settled.ensures, c.settled.ensures, c.in-Settled.is) refl

@@ -1,17 +1,20 @@
-use mathlib.Core.Path.{sym, ◌∙◌}
-use borrow.Author.Tests.{eq-eqb, ne_eqb}
-use Rattle.rules.proofs.Choice.{cond_true, cond_false}
-use Rattle.plans.specs.Parts.{buffer_act}
+-- D11 outermost.
+use Prim.Native.Nat.{◌/◌, ◌%◌}
+use mathlib.Core.Logic.{◌≢◌}
+use mathlib.Core.Path.{◌≡◌, refl}
+use native.Mathlib.Omega.{arith}
+use borrow.Author.Tests.{ne_eqb}
+use Rattle.plans.specs.Parts.{clocks_if, buffer_act}
 use Rattle.plans.proofs.writes.buffer_act.Goals as goal
 
-pub returns-then-v-eq1 : goal.returns-then-v-eq1
+pub returns-then-empties : goal.returns-then-empties
 unfolding buffer_act
-returns-then-v-eq1 c = sym (cond_true _ _ _ (eq-eqb _ _ c.if-v-eq1.true))
+returns-then-empties c =
+    let d11 : c.args.v / 2048 % 2 ≡ 1 = omega (arith, c.if-empties.true) in
+    rw d11 refl
 
-pub returns-then-v-accepted : goal.returns-then-v-accepted
-unfolding buffer_act
-returns-then-v-accepted c = sym (cond_false _ _ _ (ne_eqb _ _ c.if-v-eq1.false) ∙ cond_true _ _ _ c.if-v-accepted.true)
-
-pub returns : goal.returns
-unfolding buffer_act
-returns c = sym (cond_false _ _ _ (ne_eqb _ _ c.if-v-eq1.false) ∙ cond_false _ _ _ c.if-v-accepted.false)
+pub returns-else-empties : goal.returns-else-empties
+unfolding buffer_act clocks_if
+returns-else-empties c =
+    let d11 : c.args.v / 2048 % 2 ≢ 1 = omega (arith, c.if-empties.false) in
+    rw (ne_eqb _ _ d11) c.clocks_if.ensures

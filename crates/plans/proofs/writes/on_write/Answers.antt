@@ -11,7 +11,7 @@ returns-then-o-eq12 c =
     rw (
       c.buffer_act.ensures,
       c.clock_accepted.ensures,
-      c.buffer_of-k.ensures,
+      c.buffer_of-core.ensures,
       eq-eqb _ _ c.if-o-eq12.true,
     )
 
@@ -29,10 +29,11 @@ returns-then-initialises c =
       sym c.initialises.ensures.told ∙ c.if-initialises.true,
     )
 
-pub returns : goal.returns
+pub returns-else-initialises : goal.returns-else-initialises
 unfolding write_plan initialises
-returns c =
+returns-else-initialises c =
     rw (
+      c.core_alone.ensures,
       c.write_core.ensures,
       ne_eqb _ _ c.if-o-eq12.false,
       ne_eqb _ _ c.if-o-eq24.false,
