@@ -1,4 +1,5 @@
-// Writes as changes of the core, and what the write to each offset plans.
+// Writes as changes of the core, and what the write to each offset plans. A bit of the value is tested by the arithmetic of the rules'
+// `bit`, so that a test and its definition compute alike.
 ghost use Rattle.std.specs.Prelude.{◌≡◌};
 ghost use Rattle.plans.specs.Parts.{core_of, buffer_act};
 ghost use Rattle.plans.specs.Plan.{write_plan};
@@ -8,10 +9,11 @@ use crate::signals::clocks_if;
 use crate::states::clock_accepted;
 use crate::{Act, Plan};
 use record::mask_limit;
-use rules::{Burst, Calibration, Clock, Control, Core, Event, Load, Lost, Mode, Options, Outputs};
-use status::initialises;
+use rules::{Burst, Calibration, Clock, Control, Core, Load, Lost, Mode, Options, Outputs};
+use status::write_initialises;
 
 // 01: "Initialise: BCR 00000810h, mask of all fitted channels, divisor 0064h, .." What is not written here is zero.
+#[tactic(auto, unfolding(rules::specs::Writes::initial))]
 pub(crate) fn initial(o: Options) -> Core
     ensures { result ≡ initial o }
 {
@@ -206,6 +208,7 @@ pub(crate) fn load_asked(v: u32, x: Load) -> Load
 }
 
 // The core of a BOR write when its software clock is tried.
+#[tactic(auto, unfolding(rules::specs::Writes::buffer_of))]
 pub(crate) fn buffer_of(v: u32, c: Core) -> Core
     ensures { result ≡ buffer_of v c }
 {
@@ -254,6 +257,7 @@ pub(crate) fn buffer_act(v: u32, accepted: bool) -> Act
 }
 
 // A write to any offset that takes one.
+#[tactic(auto, unfolding(crate::specs::Plan::write_plan, crate::specs::Plan::buffer_plan, rules::specs::Size::initialises))]
 pub(crate) fn on_write(c: Core, o: u32, v: u32) -> Plan
     ensures { result ≡ write_plan c o v }
 {
@@ -268,10 +272,7 @@ pub(crate) fn on_write(c: Core, o: u32, v: u32) -> Plan
             core: c,
             act: Act::Loads(v),
         }
-    } else if initialises(Event::Write {
-        offset: o,
-        value: v,
-    }) {
+    } else if write_initialises(o, v) {
         Plan::initial(c.options)
     } else {
         Plan::core_alone(write_core(c, o, v))
