@@ -9,6 +9,6 @@ pub returns-then-c : goal.returns-then-c
 unfolding cursor_after
 returns-then-c c = sym (cond_true _ _ _ c.if-c.true)
 
-pub returns : goal.returns
-returns c =
+pub returns-else-c : goal.returns-else-c
+returns-else-c c =
     ap (λ (k : ℕ). k + 1) c.next_channel.ensures.0 ∙ sym (cursor_sequential c.args.c c.if-c.false)
