@@ -228,19 +228,16 @@ pub(crate) fn buffer_of(v: u32, c: Core) -> Core
     }
 }
 
-// A write that changes the core alone. The last arm of a `match` on the offset would not know which offsets it is none of.
+// A write that changes the core alone.
 #[tactic(auto, unfolding(crate::specs::Parts::core_of))]
 pub(crate) fn write_core(c: Core, o: u32, v: u32) -> Core
     ensures { result ≡ core_of c o v }
 {
-    if o == 0x00 {
-        write_control(c, v)
-    } else if o == 0x04 {
-        write_mask(c, v)
-    } else if o == 0x08 {
-        write_rate(c, v)
-    } else {
-        write_adjust(c, v)
+    match o {
+        0x00 => write_control(c, v),
+        0x04 => write_mask(c, v),
+        0x08 => write_rate(c, v),
+        _ => write_adjust(c, v),
     }
 }
 
@@ -261,20 +258,19 @@ pub(crate) fn buffer_act(v: u32, accepted: bool) -> Act
 pub(crate) fn on_write(c: Core, o: u32, v: u32) -> Plan
     ensures { result ≡ write_plan c o v }
 {
-    if o == 0x0C {
-        let core = buffer_of(v, c);
-        Plan {
-            core,
-            act: buffer_act(v, clock_accepted(core)),
+    match o {
+        0x0C => {
+            let core = buffer_of(v, c);
+            Plan {
+                core,
+                act: buffer_act(v, clock_accepted(core)),
+            }
         }
-    } else if o == 0x18 {
-        Plan {
+        0x18 => Plan {
             core: c,
             act: Act::Loads(v),
-        }
-    } else if write_initialises(o, v) {
-        Plan::initial(c.options)
-    } else {
-        Plan::core_alone(write_core(c, o, v))
+        },
+        _ if write_initialises(o, v) => Plan::initial(c.options),
+        _ => Plan::core_alone(write_core(c, o, v)),
     }
 }
