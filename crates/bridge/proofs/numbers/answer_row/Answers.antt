@@ -1,4 +1,4 @@
--- A fate is its number.
+-- A fate is its number; the entries by `refl`, so that a wrong one is refused by its name.
 use mathlib.Core.Path.{◌≡◌, refl}
 use denote.Enum.Declared.{tag_of}
 use Rattle.rules.specs.contracts.Fate.{the_type}

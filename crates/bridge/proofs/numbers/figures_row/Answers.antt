@@ -1,3 +1,4 @@
+-- By `refl`: a wrong figure is refused by its name.
 use mathlib.Core.Path.{refl}
 use Rattle.bridge.proofs.numbers.figures_row.Goals as goal
 
