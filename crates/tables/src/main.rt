@@ -15,17 +15,14 @@ mod print;
 // On a board with a depth of 8 values at most. The memory has values that no load stores: so what the run left there can be seen.
 fn play(rt: &HostRuntime, session: &[u8]) -> io::Result<()> {
     let mut memory = [7000000u32; 8];
-    let t = volts(session, &mut memory);
-    let channels = t.channels;
-    print::table(rt, t.refusal, channels)?;
+    print::table(rt, volts(session, &mut memory))?;
     print::memory(rt, &memory)
 }
 
 // On a board with a depth of 32 values at most, and the same values in the memory.
 fn search(rt: &impl Print, session: &[u8]) -> io::Result<()> {
     let mut memory = [7000000u32; 32];
-    let a = smallest_size(session, &mut memory);
-    print::size(rt, a.refusal, a.code)?;
+    print::size(rt, smallest_size(session, &mut memory))?;
     print::memory(rt, &memory)
 }
 
