@@ -1,14 +1,14 @@
 // How a session file ends.
 use crate::print;
-use file_rules::End;
+use file_rules::FileError;
 use kinds::fault_number;
 use std::io;
 
-fn ended(rt: &impl Print, end: End) -> io::Result<()> {
+fn ended(rt: &impl Print, end: Result<(), FileError>) -> io::Result<()> {
     match end {
-        End::File => print::field(rt, 0),
-        End::Refused(why, place) => {
-            print::field(rt, fault_number(why))?;
+        Ok(()) => print::field(rt, 0),
+        Err(FileError { fault, place }) => {
+            print::field(rt, fault_number(fault))?;
             print::field(rt, (place % 65537) as u32)
         }
     }

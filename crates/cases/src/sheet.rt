@@ -2,7 +2,7 @@
 use crate::desk::Desk;
 use crate::print;
 use kinds::row_of;
-use run::{Ahead, Cursor};
+use run::Cursor;
 use std::io;
 
 // A row joins the slice; there is room for four.
@@ -33,18 +33,12 @@ pub(crate) fn written(rt: &impl Print, desk: &mut Desk) -> io::Result<()> {
 
 // The row of the event at a place of the output, and the place after it; nothing where there is none.
 pub(crate) fn told(rt: &impl Print, output: &[u8; 40], place: u32) -> io::Result<()> {
-    let ahead = run::next(
-        output,
-        Cursor {
-            place: place as usize,
-        },
-    );
-    match ahead {
-        Ahead::Found(event, after) => {
-            let row = row_of(event);
-            print::fields(rt, &row)?;
-            print::field(rt, (after.place % 41) as u32)
-        }
-        Ahead::Over(_) => Ok(()),
+    let cursor = Cursor {
+        place: place as usize,
+    };
+    if let Ok(Some((event, after))) = run::next(output, cursor) {
+        print::fields(rt, &row_of(event))?;
+        print::field(rt, (after.place % 41) as u32)?;
     }
+    Ok(())
 }

@@ -1,30 +1,20 @@
 // The two registers that are read bit by bit, D00 first.
-ghost use Rattle.std.specs.Prelude.{◌≡◌};
-ghost use Rattle.rules.specs.Bits.{flag, number};
+ghost use Rattle.std.specs.Prelude.{◌≡◌, ◌≤◌, length};
+ghost use Rattle.rules.specs.Bits.{number};
 ghost use Rattle.rules.specs.Registers.{read_at};
 ghost use Rattle.record.specs.Capped.{capped_board};
 
 use rules::Board;
 use status::{active_size, burst_ready, clock_ready, closed, is_empty, is_full, is_high, is_low};
 
-pub(crate) fn bit_of(t: bool) -> u32
-    ensures { result ≡ flag t }
-{
-    if t {
-        return 1;
-    }
-    0
-}
-
 // The number of a list of bits, D00 first.
-pub(crate) fn number_of(bits: [bool; 18]) -> u32
-    ensures { result ≡ number bits }
+pub(crate) fn number_of(bits: &[bool]) -> u32
+    requires { length bits.now ≤ 32 }
+    ensures { result ≡ number bits.now }
 {
     let mut n = 0;
-    let mut i = 18;
-    while 0 < i {
-        i -= 1;
-        n = bit_of(bits[i]) + 2 * n;
+    for &bit in bits.iter().rev() {
+        n = u32::from(bit) + 2 * n;
     }
     n
 }
@@ -35,7 +25,7 @@ pub(crate) fn read_control(b: Board) -> u32
 {
     let c = b.core;
     let s = c.control.selection;
-    number_of([
+    number_of(&[
         c.control.bursts,
         burst_ready(c),
         c.burst.software,
@@ -52,8 +42,6 @@ pub(crate) fn read_control(b: Board) -> u32
         c.calibration.running,
         c.calibration.failed,
         false,
-        false,
-        false,
     ])
 }
 
@@ -65,7 +53,7 @@ pub(crate) fn read_buffer(b: Board) -> u32
     let n = b.ring.count;
     let code = b.size.code;
     let size = active_size(b.size);
-    number_of([
+    number_of(&[
         code % 2 == 1,
         code / 2 % 2 == 1,
         code / 4 % 2 == 1,

@@ -18,27 +18,18 @@ pub(crate) fn read_adjust(b: Board) -> u32
     ensures { result ≡ read_at (capped_board b) 0x1C }
 {
     let k = b.core.clock;
-    if k.alt {
-        return k.nclk % 512 + 512;
-    }
-    k.nclk % 512
+    k.nclk % 512 + 512 * u32::from(k.alt)
 }
 
-// The registers but the two that are bit by bit.
+// The registers but the two that are bit by bit; 14h and 18h read 0.
 pub(crate) fn read_fields(b: Board, o: u32) -> u32
     ensures { o ≢ 0x00 → o ≢ 0x0C → result ≡ read_at (capped_board b) o }
 {
-    if o == 4 {
-        return b.core.outputs.mask % 1048576;
+    match o {
+        0x04 => b.core.outputs.mask % 1048576,
+        0x08 => b.core.clock.divisor % 65536,
+        0x10 => read_options(b),
+        0x1C => read_adjust(b),
+        _ => 0,
     }
-    if o == 8 {
-        return b.core.clock.divisor % 65536;
-    }
-    if o == 16 {
-        return read_options(b);
-    }
-    if o == 28 {
-        return read_adjust(b);
-    }
-    0
 }

@@ -13,15 +13,14 @@ use rules::Board;
 mod bitwise;
 mod fieldwise;
 
-// What is read at an offset; 0 where there is no register.
+// What is read at an offset; 0 where there is no register. Offsets are numbers, here and wherever they are asked for: an event carries
+// any, and 01 names most registers by them alone; an enum would leave its `None` to be answered at each place.
 pub fn register_at(b: Board, o: u32) -> u32
     ensures { Told (read_at (capped_board b) o) result }
 {
-    if o == 0 {
-        return read_control(b);
+    match o {
+        0x00 => read_control(b),
+        0x0C => read_buffer(b),
+        _ => read_fields(b, o),
     }
-    if o == 12 {
-        return read_buffer(b);
-    }
-    read_fields(b, o)
 }

@@ -19,7 +19,7 @@ use Rattle.rules.proofs.Readings.{flag_le, bit_number, get_d_bits_of, number_bit
 use Rattle.rules.proofs.States.{closed_not, burst_ready_exactly, clock_ready_exactly}
 
 -- a list of n bits reads below 2^n
-number_below : (bs : List Bool) → number bs < 2 ^ length bs
+pub number_below : (bs : List Bool) → number bs < 2 ^ length bs
 unfolding number
 number_below [] = omega arith
 number_below (b ∷ bs) = omega (arith, flag_le b, number_below bs, pow-suc 2 (length bs))

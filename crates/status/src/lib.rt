@@ -8,6 +8,7 @@ ghost use Rattle.rules.specs.Record.{active_size};
 ghost use Rattle.rules.specs.Clocks.{closed, clock_ready, burst_ready, tick_accepted};
 ghost use Rattle.rules.specs.Flags.{is_empty};
 ghost use Rattle.rules.specs.Size.{initialises};
+ghost use Rattle.rules.specs.declared.Event.TheVariants.{Write as write};
 ghost use Rattle.rules.specs.Told.{Told};
 ghost use Rattle.record.specs.Capped.{capped};
 
@@ -43,13 +44,11 @@ pub fn tick_accepted(c: Core) -> bool
 }
 
 // 01: "The active size is 8·2^m, where m is the lesser of size code and d."
+#[tactic(auto, unfolding(rules::specs::Record::active_size, rules::specs::Record::depth_of))]
 pub fn active_size(s: Size) -> u32
     ensures { Told (active_size (capped s)) result }
 {
-    if s.code < s.fitted {
-        return depth_of(s.code);
-    }
-    depth_of(s.fitted)
+    depth_of(s.code.min(s.fitted))
 }
 
 // 01: "Flags: empty at count 0"
@@ -80,14 +79,22 @@ pub fn is_full(size: u32, count: u32) -> bool
     size <= count
 }
 
-// Power-up, or a BCR write with D15 set.
+// A BCR write with D15 set.
+#[tactic(auto, unfolding(rules::specs::Size::initialises))]
+pub fn write_initialises(offset: u32, value: u32) -> bool
+    ensures { Told (initialises (write offset value)) result }
+{
+    (offset == 0x00) & (value / 32768 % 2 == 1)
+}
+
+// Power-up, or such a write.
+#[tactic(auto, unfolding(rules::specs::Size::initialises))]
 pub fn initialises(e: Event) -> bool
     ensures { Told (initialises e) result }
 {
     match e {
         Event::PowerUp(_) => true,
-        Event::Write { offset, value } => (offset == 0) & (value / 32768 % 2 == 1),
-        Event::Read { offset: _ } => false,
-        Event::Signal(_) => false,
+        Event::Write { offset, value } => write_initialises(offset, value),
+        _ => false,
     }
 }

@@ -5,9 +5,9 @@ use std::io;
 use volt_rules::Extremes;
 use volts::VoltRefusal;
 
-// Positive zero, and not the zero with the sign of a number below it.
+// Positive zero: a share of the other one is below it. std tells a sign only of what is proved to be a number.
 fn is_zero(x: f32) -> bool {
-    (x == 0.0) & !x.is_sign_negative()
+    (x == 0.0) & (0.0 < 1.0 / x)
 }
 
 fn channel(rt: &HostRuntime, k: usize, x: Extremes) -> io::Result<()> {

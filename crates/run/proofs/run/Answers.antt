@@ -1,4 +1,5 @@
 use mathlib.Core.Path.{◌≡◌, refl, sym, ap, subst, ◌∙◌}
+use native.Mathlib.Omega.{arith}
 use borrow.Author.Rules.{rules}
 use Rattle.std.specs.Prelude.{Ok, Some, None}
 use Rattle.rules.specs.declared.Board.{Board}
@@ -24,7 +25,7 @@ loop-after-smaller c =
     let played = c.in-Ok-Some in
     let p : c.advance-a.result.progress ≡ Ok (Some (played.field-0-0-0, played.after)) = search (rules, played.is, played.field-0-is) in
     let w = was_played a.s.now l.c (state_of l.board l.memory) _ _ (sym c.advance-a.ensures.progress ∙ ap progress_of p) in
-    way_ends a.s.now l.c _ w.0 w.1
+    omega (arith, way_ends a.s.now l.c played.after w.0 w.1)
 
 pub loop-after-preserved : goal.loop-after-preserved
 loop-after-preserved c =

@@ -1,12 +1,10 @@
--- The list has two bits more than the register, both 0.
 use mathlib.Core.Path.{◌∙◌}
 use Rattle.rules.specs.Registers.{control_bits, registers, read_from}
-use Rattle.record.specs.Capped.{capped_board}
-use Rattle.registers.proofs.BitNumbers.{bits_of_3, number_padded}
+use Rattle.registers.proofs.BitNumbers.{bits_of_3}
 use Rattle.registers.proofs.bitwise.read_control.Goals as goal
 
 pub returns : goal.returns
 unfolding registers read_from control_bits
 returns c =
     let b = c.args.b in
-    c.number_of.ensures ∙ rw (c.burst_ready.ensures.told, ← number_padded (control_bits (capped_board b)), bits_of_3 b.core.control.selection)
+    c.number_of.ensures ∙ rw (c.burst_ready.ensures.told, bits_of_3 b.core.control.selection)

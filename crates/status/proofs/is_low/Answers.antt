@@ -1,5 +1,0 @@
-use mathlib.Core.Path.{refl}
-use Rattle.status.proofs.is_low.Goals as goal
-
-pub returns : goal.returns
-returns c = record { told = refl }
