@@ -8,6 +8,7 @@ use lib.Dec.{eqb}
 use lib.ListN.{length}
 use Rattle.rules.specs.Step.{Outcome, step}
 use Rattle.rules.specs.Record.{state_of}
+use Rattle.rules.specs.Numbered.{answer_of}
 use Rattle.rules.specs.Told.{Told}
 use Rattle.board.specs.Promises.{Stepped}
 use Rattle.board.specs.declared.Reply.{Reply}
@@ -44,14 +45,14 @@ understood_left r m e a z = rw z
 module _ (r m e a r' m' a' : List ℕ) (b : Board) (ev : Event) (y : Reply) where
   pub understood :
       call_status (length r) e (length a) ≡ 0 → length r ≡ row_long → Told (told_of r) b → ev ≡ event_of_row e → Stepped b m ev y m'
-      → a' ≡ answer_row y.answer → r' ≡ cond (eqb y.answer.refusal 0) (board_row y.board) r
+      → a' ≡ answer_row (answer_of y.answer) → r' ≡ cond (eqb (answer_of y.answer).refusal 0) (board_row y.board) r
       → Called r m e a 0 r' m' a'
   understood z long told ee s pa pr =
       let bb = read_whole r b long told in
       let o = understood_left r m e a z in
       let w : step (state_of b m) ev ≡ step (state_of (board_at r) m) (event_of_row e) =
       λ i. step (state_of (bb i) m) (ee i) in
-      let wa : y.answer ≡ (step (state_of (board_at r) m) (event_of_row e)).answer =
+      let wa : answer_of y.answer ≡ (step (state_of (board_at r) m) (event_of_row e)).answer =
       s.answer ∙ ap (λ (x : Outcome). x.answer) w in
       let wb : y.board ≡ (step (state_of (board_at r) m) (event_of_row e)).state.board =
       s.board ∙ ap (λ (x : Outcome). x.state.board) w in

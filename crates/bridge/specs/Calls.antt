@@ -1,7 +1,7 @@
 -- A call: a record as a row of 55 numbers, the sample memory, an event as a row of 6 (that of file_rules/specs/Row.antt), and room for an
 -- answer of 4.
 -- A rate question: a record as a row of 55 numbers, and room for 3 figures.
-use Rattle.std.specs.Prelude.{ℕ, ◌≡◌, ◌||◌, not, cond, List, [], ◌∷◌, eqb, ltb, length}
+use Rattle.std.specs.Prelude.{ℕ, ◌||◌, not, cond, List, [], ◌∷◌, eqb, ltb, length}
 use Rattle.rules.specs.Step.{Outcome, step}
 use Rattle.rules.specs.Rates.{rates}
 use Rattle.rules.specs.Record.{state_of}
@@ -10,12 +10,6 @@ use Rattle.rows.specs.Places.{row_long}
 use Rattle.rows.specs.Reading.{at, board_at}
 use Rattle.rows.specs.Writing.{board_row}
 use Rattle.bridge.specs.Types.{Answer, Figures}
-
--- the lengths of a call that is looked at
-pub record CallFits (row : ℕ) (e : List ℕ) (answer : ℕ) : Type 0 where
-  pub record_long : row ≡ row_long
-  pub event_long : length e ≡ 6
-  pub answer_long : answer ≡ 4
 
 -- why a call is not understood, the first that holds: 1 the record, 2 the event, 3 the answer is of another length; 4 no such
 -- kind of event; 0 it is understood

@@ -1,35 +1,39 @@
 // The event that a row of six numbers says.
-ghost use Rattle.std.specs.Prelude.{◌≡◌, length};
-ghost use Rattle.file_rules.specs.File.{event_of};
-ghost use Rattle.file_rules.specs.Row.{event_of_row};
+ghost use Rattle.std.specs.Prelude.{◌≡◌};
+ghost use Rattle.kinds.specs.Numbers.{kind_number};
+ghost use Rattle.file_rules.specs.Row.{field, event_of_row};
+ghost use Rattle.bridge.specs.Misfits.{EventRead};
 
-use kinds::signal_of;
+use kinds::{Kind, UnknownKind};
 use rules::{Event, Settings};
 
 // Offset and value of an access stand where a power-up has its first two settings: the kind says which they are.
-fn event_of(kind: u32, offset: u32, value: u32, settings: Settings) -> Event
-    ensures { result ≡ event_of kind offset value settings }
+fn event_of(kind: Kind, row: &[u32; 6]) -> Event
+    requires { kind_number kind ≡ field row.now 0 }
+    ensures { result ≡ event_of_row row.now }
 {
+    let [_, first, second, filter, kit, firmware] = *row;
     match kind {
-        1 => Event::PowerUp(settings),
-        2 => Event::Write { offset, value },
-        3 => Event::Read { offset },
-        _ => Event::Signal(signal_of(kind)),
+        Kind::PowerUp => Event::PowerUp(Settings {
+            fitted: first,
+            range: second,
+            filter,
+            kit,
+            firmware,
+        }),
+        Kind::Write => Event::Write {
+            offset: first,
+            value: second,
+        },
+        Kind::Read => Event::Read { offset: first },
+        Kind::Signal(signal) => Event::Signal(signal),
     }
 }
 
-pub(crate) fn row_event(event: &[u32]) -> Event
-    requires { length event.now ≡ 6 }
-    ensures { result ≡ event_of_row event.now }
+pub(crate) fn row_event(row: &[u32; 6]) -> Result<Event, UnknownKind>
+    ensures { EventRead row.now result }
 {
-    let first = event[1];
-    let second = event[2];
-    let settings = Settings {
-        fitted: first,
-        range: second,
-        filter: event[3],
-        kit: event[4],
-        firmware: event[5],
-    };
-    event_of(event[0], first, second, settings)
+    let number = row[0];
+    let kind = Kind::try_from(number)?;
+    Ok(event_of(kind, row))
 }

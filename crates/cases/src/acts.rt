@@ -24,31 +24,68 @@ use crate::sheet::{cut, put, written};
 use crate::{endings, figures, print, sheet};
 use std::io;
 
-pub(crate) fn done(rt: &impl Print, desk: &mut Desk) -> io::Result<()> {
-    match desk.act {
-        b'U' => *desk = cleared(true),
-        b'L' => desk.lent = desk.numbers[0],
-        b'S' => set(desk),
-        b'E' => event(desk),
-        b'P' => put(desk),
-        b'C' => cut(desk),
-        b'W' => return written(rt, desk),
-        b'G' => return extracted(rt, desk),
-        _ => return told(rt, desk),
-    }
-    Ok(())
+#[derive(Clone, Copy)]
+pub(crate) enum Act {
+    Unpowered,
+    Lent,
+    Set,
+    Event,
+    Answer,
+    Value,
+    Number,
+    Memory,
+    Figures,
+    Run,
+    Put,
+    Cut,
+    Write,
+    Group,
+    Bytes,
+    Tell,
 }
 
-// The acts that print.
-fn told(rt: &impl Print, desk: &Desk) -> io::Result<()> {
-    match desk.act {
-        b'A' => print::field(rt, desk.refusal),
-        b'V' => print::field(rt, desk.register),
-        b'N' => print::entry(rt, &desk.row, desk.numbers[0]),
-        b'M' => print::entry(rt, &desk.memory, desk.numbers[0]),
-        b'F' => figures::asked(rt, &desk.row),
-        b'B' => print::bytes(rt, &desk.output),
-        b'T' => sheet::told(rt, &desk.output, desk.numbers[0]),
-        _ => endings::told(rt, &desk.bytes, desk.count),
+impl From<u8> for Act {
+    // A letter that opens no act runs a session file.
+    fn from(letter: u8) -> Act {
+        match letter {
+            b'U' => Act::Unpowered,
+            b'L' => Act::Lent,
+            b'S' => Act::Set,
+            b'E' => Act::Event,
+            b'A' => Act::Answer,
+            b'V' => Act::Value,
+            b'N' => Act::Number,
+            b'M' => Act::Memory,
+            b'F' => Act::Figures,
+            b'P' => Act::Put,
+            b'C' => Act::Cut,
+            b'W' => Act::Write,
+            b'G' => Act::Group,
+            b'B' => Act::Bytes,
+            b'T' => Act::Tell,
+            _ => Act::Run,
+        }
     }
+}
+
+pub(crate) fn done(rt: &HostRuntime, desk: &mut Desk) -> io::Result<()> {
+    match desk.act {
+        Act::Unpowered => *desk = cleared(rt.alloc()),
+        Act::Lent => desk.lent = desk.numbers[0],
+        Act::Set => set(desk),
+        Act::Event => event(desk),
+        Act::Put => put(desk)?,
+        Act::Cut => cut(desk),
+        Act::Write => written(rt, desk)?,
+        Act::Group => extracted(rt, desk)?,
+        Act::Answer => print::field(rt, desk.refusal)?,
+        Act::Value => print::field(rt, desk.register)?,
+        Act::Number => print::entry(rt, &desk.row, desk.numbers[0])?,
+        Act::Memory => print::entry(rt, &desk.memory, desk.numbers[0])?,
+        Act::Figures => figures::asked(rt, &desk.row)?,
+        Act::Bytes => print::fields(rt, &desk.output)?,
+        Act::Tell => sheet::told(rt, &desk.output, desk.numbers[0])?,
+        Act::Run => endings::told(rt, desk.bytes.as_slice())?,
+    }
+    Ok(())
 }

@@ -6,7 +6,5 @@ use std::io;
 pub(crate) fn asked(rt: &impl Print, row: &[u32; 55]) -> io::Result<()> {
     let mut figures = [99u32; 3];
     nergutsai_rate(row, &mut figures);
-    print::field(rt, figures[0])?;
-    print::field(rt, figures[1])?;
-    print::field(rt, figures[2])
+    print::fields(rt, &figures)
 }

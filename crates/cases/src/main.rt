@@ -17,10 +17,10 @@ mod line;
 mod print;
 mod sheet;
 
-fn work(rt: &impl Print, text: &[u8]) -> io::Result<()> {
-    let mut desk = cleared(false);
-    for c in text {
-        read(rt, &mut desk, *c)?;
+fn work(rt: &HostRuntime, text: &[u8]) -> io::Result<()> {
+    let mut desk = cleared(rt.alloc());
+    for line in text.split_inclusive(|c| *c == b'\n') {
+        read(rt, &mut desk, line)?;
     }
     Ok(())
 }

@@ -1,39 +1,23 @@
-// What the program writes: the letters of a name, and numbers with a blank before each.
+// What the program writes behind a name: numbers with a blank before each.
+use std::fmt::Display;
 use std::io;
 
-pub(crate) fn letter(rt: &impl Print, c: u8) -> io::Result<()> {
-    rt.write_all(&[c])
-}
-
-pub(crate) fn field(rt: &impl Print, n: u32) -> io::Result<()> {
+pub(crate) fn field(rt: &impl Print, n: impl Display + Drop) -> io::Result<()> {
     print!(rt; " {n}")
 }
 
-// An entry of a row or a memory.
+// An entry of a row or a memory; nothing where there is none.
 pub(crate) fn entry(rt: &impl Print, entries: &[u32], at: u32) -> io::Result<()> {
-    let i = at as usize;
-    if i < entries.len() {
-        return field(rt, entries[i]);
+    match entries.get(at as usize) {
+        Some(n) => field(rt, *n),
+        None => Ok(()),
     }
-    Ok(())
 }
 
-// All entries of a row.
-pub(crate) fn entries(rt: &impl Print, row: &[u32; 6]) -> io::Result<()> {
-    for n in row {
-        field(rt, *n)?;
-    }
-    Ok(())
-}
-
-fn byte(rt: &impl Print, b: u8) -> io::Result<()> {
-    field(rt, b as u32)
-}
-
-// All bytes of an output.
-pub(crate) fn bytes(rt: &impl Print, bytes: &[u8; 40]) -> io::Result<()> {
-    for b in bytes {
-        byte(rt, *b)?;
+// All numbers of a row, or bytes of an output.
+pub(crate) fn fields<N: Display>(rt: &impl Print, numbers: &[N]) -> io::Result<()> {
+    for n in numbers {
+        field(rt, n)?;
     }
     Ok(())
 }

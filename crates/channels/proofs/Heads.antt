@@ -1,8 +1,10 @@
 -- The first of a list of channels, with 20 or another number where there is none.
 use Prim.Native.Nat.{ℕ, zero, suc, ◌+◌, ◌-◌, ◌≤◌, ◌<◌}
-use mathlib.Core.Path.{◌≡◌, refl}
+use mathlib.Core.Path.{◌≡◌, refl, ◌∙◌}
 use mathlib.Core.List.{List, [], ◌∷◌, ◌++◌}
 use native.Mathlib.Omega.{arith}
+use Rattle.std.specs.Prelude.{Option, Some, None, MatchOption}
+use Rattle.std.specs.Option.{unwrap_or}
 use Rattle.rules.specs.Bits.{bit, active, active_from, head_or}
 use Rattle.rules.proofs.Choice.{either}
 
@@ -27,3 +29,10 @@ head_high d (suc n) k mask h =
 -- a channel is below 20, so that 20 says that there is none
 pub head_none : (k mask : ℕ) → k ≤ 20 → 20 ≤ head_or 20 (active_from k mask) → active_from k mask ≡ []
 head_none k mask h l = head_high 20 (20 - k) k mask (omega arith)
+
+-- the first where there is one, else d
+pub first_or : (d : ℕ) (ks : List ℕ) (r : Option ℕ) → d < 20 → MatchOption r (ks ≡ []) (λ at. (at ≡ head_or 20 ks) × (at < 20))
+    → (unwrap_or r d ≡ head_or d ks) × (unwrap_or r d < 20)
+unfolding head_or
+first_or d ks None l e = (rw e refl, l)
+first_or d ks (Some at) l e = (e.0 ∙ head_there d ks (rw e.0 at e.1), e.1)

@@ -1,7 +1,7 @@
 -- The channels of a mask, taken off one by one: the lowest is the head of their list, and the mask without it has the tail; and that none
 -- is above channel 19.
-use Prim.Native.Nat.{ℕ, zero, suc, ◌+◌, ◌^◌, ◌<◌}
-use mathlib.Core.Path.{◌≡◌, refl}
+use Prim.Native.Nat.{ℕ, zero, suc, ◌+◌, ◌%◌, ◌^◌, ◌<◌}
+use mathlib.Core.Path.{◌≡◌, refl, ap, ◌∙◌}
 use mathlib.Core.Logic.{⊎_elim}
 use mathlib.Core.List.{List, [], ◌∷◌}
 use native.Mathlib.Omega.{arith}
@@ -10,6 +10,7 @@ use Rattle.rules.specs.Bits.{bit, active, active_from}
 use Rattle.rules.proofs.Choice.{cases}
 use Rattle.laws.specs.Moved.{Among}
 use Rattle.laws.specs.Search.{without}
+use Rattle.laws.proofs.Actives.{active_low}
 use Rattle.laws.proofs.Among.{among_nil, among_cons}
 use Rattle.laws.proofs.Search.{zeros_below, group_zeros}
 
@@ -33,3 +34,7 @@ below (suc n) k mask j h = go (below n (suc k) mask j) h
 
 pub channels_below : (mask j : ℕ) → Among j (active_from 0 mask) → j < 20
 channels_below mask j h = below 20 0 mask j h
+
+-- those of a mask cut to twenty bits
+pub cut_channels : (mask waiting : ℕ) → waiting ≡ mask % 2 ^ 20 → active_from 0 waiting ≡ active_from 0 mask
+cut_channels mask waiting e = ap (active_from 0) e ∙ active_low 20 0 20 mask (omega arith)

@@ -20,10 +20,8 @@ pub(crate) fn to_move(c: Core, count: u32) -> u32
 {
     if (c.outputs.mask < 1048576) & (c.outputs.cursor <= 20) {
         let size = group_size(c);
-        if idle(c) | (count < size) {
-            return 0;
-        }
-        return size;
+        if idle(c) | (count < size) { 0 } else { size }
+    } else {
+        0
     }
-    0
 }

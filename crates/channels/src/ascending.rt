@@ -42,11 +42,12 @@ impl Iterator for ActiveChannels {
     ghost remaining = { item_count (λ rest. rest) };
 
     fn next(&mut self) -> Option<usize> {
-        if self.waiting == 0 {
+        let none = self.waiting == 0;
+        if none {
             return None;
         }
-        let k = u32::trailing_zeros(self.waiting);
-        self.waiting = self.waiting & (self.waiting - 1);
+        let k = self.waiting.trailing_zeros();
+        self.waiting &= self.waiting - 1;
         Some(k as usize)
     }
 }

@@ -1,23 +1,10 @@
 // Two texts held against each other.
 
-#[derive(Clone, Copy)]
-pub(crate) enum Difference {
-    Nowhere,
-    At(usize),
-}
-
 // The first place where two texts differ; where one goes on after the other has ended, that is the end of the shorter.
-pub(crate) fn first_difference(a: &[u8], b: &[u8]) -> Difference {
-    for i in 0..a.len() {
-        if b.len() <= i {
-            return Difference::At(i);
-        }
-        if a[i] != b[i] {
-            return Difference::At(i);
-        }
+pub(crate) fn first_difference(a: &[u8], b: &[u8]) -> Option<usize> {
+    if a == b {
+        return None;
     }
-    if a.len() < b.len() {
-        return Difference::At(a.len());
-    }
-    Difference::Nowhere
+    let place = a.iter().zip(b).position(|(x, y)| *x != *y);
+    Some(place.unwrap_or(a.len().min(b.len())))
 }

@@ -14,3 +14,4 @@ pub mod RowsGiven
 pub mod WritesGiven
 pub mod WriteRead
 pub mod WriteExamples
+pub mod Unique

@@ -8,3 +8,4 @@ pub mod Pieces
 pub mod Writing
 pub mod WritingLaws
 pub mod Examples
+pub mod Unique

@@ -1,4 +1,5 @@
-// Pieces of a line: bytes, texts and numbers, each written from a place on; the answer is the place after it.
+// Pieces of a line: bytes, texts and numbers, each written from a place on; the answer is the place after it. Output and place are two
+// parameters: a struct of both would hold the lent output, and each function would have to promise that it stays the same one.
 ghost use Rattle.std.specs.Prelude.{◌+◌, ◌/◌, ◌%◌, ◌<◌, ◌≤◌, ◌≡◌, [], ◌∷◌, length};
 ghost use Rattle.listing_rules.specs.Text.{digit, capital, hex, decimal_in, decimal};
 ghost use Rattle.file_rules.specs.Pieces.{Piece};
@@ -116,18 +117,6 @@ pub(crate) fn put_small(out: &mut [u8], at: usize, n: u32) -> usize
     put_two_digits(out, p, n - 100 * high)
 }
 
-// A number of at most six digits.
-pub(crate) fn put_middle(out: &mut [u8], at: usize, n: u32) -> usize
-    requires { (at + 6 ≤ length out.old) × (n < 1000000) }
-    ensures { Piece out.old at (decimal_in 5 n) out.new result }
-{
-    if n < 10000 {
-        return put_small(out, at, n);
-    }
-    let p = put_tens(out, at, n / 10000);
-    put_four_digits(out, p, n)
-}
-
 // A number that mostly has more than one digit, four at a time: ten are two, four and four.
 pub(crate) fn put_long(out: &mut [u8], at: usize, n: u32) -> usize
     requires { at + 10 ≤ length out.old }
@@ -136,7 +125,7 @@ pub(crate) fn put_long(out: &mut [u8], at: usize, n: u32) -> usize
     if n < 10000 {
         return put_small(out, at, n);
     }
-    let p = put_middle(out, at, n / 10000);
+    let p = put_long(out, at, n / 10000);
     put_four_digits(out, p, n)
 }
 

@@ -76,7 +76,8 @@ pub(crate) fn write_line(
     }
 }
 
-// What is done has the refusal 0.
+// What is done has the refusal 0. It is compiled into both its callers: of a register that is known to be 0 nothing is asked then.
+#[inline(always)]
 pub(crate) fn write_done(out: &mut [u8], at: usize, number: u32, done: Done, count: u32) -> usize
     requires { at + 64 ≤ length out.old }
     ensures { Piece out.old at (line number (answer_of (Ok done)) count) out.new result }

@@ -1,16 +1,16 @@
 -- Events done at once: what they change is what the step says.
 use Prim.Native.Nat.{ℕ, ◌%◌, ◌≤◌, ◌<◌}
 use mathlib.Core.Path.{◌≡◌, refl, sym, ap, subst, ◌∙◌}
-use mathlib.Core.Logic.{◌≢◌}
-use mathlib.Core.Bool.{Bool, true, false, cond, false≢true}
+use mathlib.Core.Bool.{Bool, true, false, false≢true}
 use mathlib.Core.List.{List}
 use native.Mathlib.Nat.{le_refl, min-eq_right}
 use native.Mathlib.Omega.{arith}
-use borrow.Author.Tests.{eqb-true, ne_eqb, leb-true, leb-false, not-true, lt-leb}
-use lib.Dec.{eqb, leb}
-use Rattle.rules.specs.declared.Signal.TheVariants.{Tick, Outside, Trigger, Passed, Failed, Settled}
+use borrow.Author.Tests.{eqb-true, leb-true, leb-false, not-true, lt-leb}
+use lib.Dec.{leb}
+use Rattle.std.specs.Prelude.{Ok}
+use Rattle.rules.specs.declared.Signal.TheVariants.{Tick as tick}
 use Rattle.rules.specs.declared.Event.{Event}
-use Rattle.rules.specs.declared.Event.TheVariants.{PowerUp, Write, Read, Signal as signal}
+use Rattle.rules.specs.declared.Event.TheVariants.{Write, Signal as signal}
 use Rattle.rules.specs.declared.Core.{Core}
 use Rattle.rules.specs.declared.Board.{Board}
 use Rattle.rules.specs.Record.{State, value_span, depth_of, depth, active_size, stored}
@@ -26,7 +26,7 @@ use Rattle.rules.specs.Refusals.{refusal}
 use Rattle.rules.specs.Step.{reading, played, board_before, with_request}
 use Rattle.rules.specs.Laws.Soundness.{Stands}
 use Rattle.rules.specs.Laws.Refusals.{written, heard, a_tick}
-use Rattle.rules.proofs.Choice.{all_cons, and_both, and_true, cond_true, cond_false}
+use Rattle.rules.proofs.Choice.{all_cons, and_both, and_true, cond_true}
 use Rattle.rules.proofs.Refusals.{refusal_exactly}
 use Rattle.moves.specs.declared.Played.{Played}
 use Rattle.moves.specs.declared.Stored.{Stored}
@@ -37,36 +37,17 @@ use Rattle.moves.proofs.Tested.{load_whole}
 use Rattle.board.specs.Promises.{Stepped}
 use Rattle.board.proofs.Standing.{stands_ready}
 use Rattle.board.proofs.Whole.{done_stepped}
-use Rattle.run.specs.Ahead.{Ahead}
-use Rattle.run.specs.Ahead.{Found, Over}
 use Rattle.listing.specs.declared.shortcuts.Common.{Common}
-use Rattle.listing.specs.Shortcuts.{common_event, uncommon, common_of, takes, ticks, quick, board_with}
+use Rattle.listing.specs.declared.shortcuts.Common.TheVariants.{Load, Tick}
+use Rattle.listing.specs.Shortcuts.{takes, ticks, quick, board_with}
 
 -- ---- Which event it is
 
-pub load_common : (kind v : ℕ) → kind ≡ 1 → ◌≡◌ {A = Event} (common_event kind v) (Write 0x18 v)
-unfolding common_event
-load_common kind v h = rw h
+pub quick_load : (b : Board) (d : ℕ) (x : Common) (v : ℕ) → x ≡ Load v → quick b d x ≡ true → (b.core.powered ≡ true) × (takes b d ≡ true)
+quick_load b d x v h q = and_both b.core.powered _ (sym (ap (quick b d) h) ∙ q)
 
-pub tick_common : (kind v : ℕ) → kind ≡ 2 → ◌≡◌ {A = Event} (common_event kind v) (signal Tick)
-unfolding common_event
-tick_common kind v h = rw h
-
-pub quick_load : (b : Board) (d kind : ℕ) → quick b d kind ≡ true → kind ≡ 1 → (b.core.powered ≡ true) × (takes b d ≡ true)
-unfolding quick
-quick_load b d kind q h = and_both b.core.powered _ (rw h at q)
-
-pub quick_tick : (b : Board) (d kind : ℕ) → quick b d kind ≡ true → kind ≢ 1
-    → (b.core.powered ≡ true) × (kind ≡ 2) × (ticks b.core ≡ true)
-unfolding quick
-quick_tick b d kind q h =
-    let t = and_both b.core.powered _ (sym (cond_false _ _ _ (ne_eqb kind 1 h)) ∙ q) in
-    let u = and_both (eqb kind 2) _ t.1 in
-    (t.0, eqb-true kind 2 u.0, u.1)
-
--- it is one of the two
-pub quick_some : (b : Board) (d kind : ℕ) → quick b d kind ≡ true → kind ≢ 0
-quick_some b d kind q e = let t = quick_tick b d kind q (λ o. omega (arith, o, e)) in omega (arith, t.1, e)
+pub quick_tick : (b : Board) (d : ℕ) (x : Common) → x ≡ Tick → quick b d x ≡ true → (b.core.powered ≡ true) × (ticks b.core ≡ true)
+quick_tick b d x h q = and_both b.core.powered _ (sym (ap (quick b d) h) ∙ q)
 
 -- ---- Events that read nothing and leave size, request and selection alone
 
@@ -80,7 +61,7 @@ load_quiet : (b : Board) (v : ℕ) → Quiet b (Write 0x18 v)
 unfolding reading size_after code_of request_held initialises
 load_quiet b v = record { reads = refl; sizes = refl; holds = and_true b.request; plain = refl }
 
-tick_quiet : (b : Board) → Quiet b (signal Tick)
+tick_quiet : (b : Board) → Quiet b (signal tick)
 unfolding reading size_after request_held initialises
 tick_quiet b = record { reads = refl; sizes = refl; holds = refl; plain = refl }
 
@@ -95,7 +76,7 @@ module _ (s : State) (e : Event) (p : Played) (m' : List ℕ) where
       → Does (depth s.board) (played s e) s.board.ring s.memory p m'
       → Stepped s.board s.memory e
       (record {
-        answer = record { refusal = 0; register = 0; moved = p.moved; fate = p.fate };
+        answer = Ok (record { register = 0; moved = p.moved; fate = p.fate });
         board = record { core = p.core; size = s.board.size; request = s.board.request; ring = p.ring };
       }) m'
   unfolding board_before
@@ -155,7 +136,7 @@ module _ (s : State) (d v : ℕ) (st : Stands s) (e : d ≡ depth s.board) (t : 
       → LoadsOne c d s.board.ring d v s.memory r m'
       → Stepped s.board s.memory (Write 0x18 v)
       (record {
-        answer = record { refusal = 0; register = 0; moved = 0; fate = r.fate };
+        answer = Ok (record { register = 0; moved = 0; fate = r.fate });
         board = record { core = s.board.core; size = s.board.size; request = s.board.request; ring = r.ring };
       }) m'
   stored_stepped c r m' same l =
@@ -181,7 +162,7 @@ module _ (s : State) (d v : ℕ) (st : Stands s) (e : d ≡ depth s.board) (t : 
 
 -- ---- A tick
 
-tick_played : (s : State) → tick_accepted s.board.core ≡ true → played s (signal Tick) ≡ clock s.board.core (stored s)
+tick_played : (s : State) → tick_accepted s.board.core ≡ true → played s (signal tick) ≡ clock s.board.core (stored s)
 unfolding play on_signal on_tick
 tick_played s h = cond_true _ _ _ h
 
@@ -195,16 +176,16 @@ ticks_says c h =
 module _ (s : State) (d : ℕ) (st : Stands s) (e : d ≡ depth s.board) (t : ticks s.board.core ≡ true) where
   pub ticked_stepped : (p : Played) (m' : List ℕ) → p.core.control.selection ≡ s.board.core.control.selection
       → Does d (clock s.board.core (ring_values d s.board.ring s.memory)) s.board.ring s.memory p m'
-      → Stepped s.board s.memory (signal Tick)
+      → Stepped s.board s.memory (signal tick)
       (record {
-        answer = record { refusal = 0; register = 0; moved = p.moved; fate = p.fate };
+        answer = Ok (record { register = 0; moved = p.moved; fate = p.fate });
         board = record { core = p.core; size = s.board.size; request = s.board.request; ring = p.ring };
       }) m'
   unfolding stored
   ticked_stepped p m' same x =
       let w = ticks_says s.board.core t in
       let y = subst (λ (k : ℕ). Does k (clock s.board.core (ring_values k s.board.ring s.memory)) s.board.ring s.memory p m') e x in
-      quick_stepped s (signal Tick) p m' ((refusal_exactly s (signal Tick) 0).1 (heard a_tick st)) (tick_quiet s.board) w.0 (same ∙ w.0)
+      quick_stepped s (signal tick) p m' ((refusal_exactly s (signal tick) 0).1 (heard a_tick st)) (tick_quiet s.board) w.0 (same ∙ w.0)
       (subst (λ (q : Play). Does (depth s.board) q s.board.ring s.memory p m') (sym (tick_played s w.1)) y)
 
 -- the test of the code does not look at the levels
@@ -215,26 +196,3 @@ takes_with b d ls = refl
 pub ticks_with : (c : Core) (ls : List ℕ) → ticks (with_levels c ls) ≡ ticks c
 unfolding ticks
 ticks_with c ls = refl
-
--- ---- What stands ahead
-
--- where its kind is not 0, it is the event that its kind and its value say
-pub common_stands : (n : Ahead) → (common_of n).kind ≢ 0 → n ≡ Found (common_event (common_of n).kind (common_of n).value) (common_of n).after
-unfolding common_event
-common_stands (Found (Write o v) c) z = go (eqb o 0x18) refl z
-  where
-    made : Bool → Common
-    made t = cond t (record { kind = 1; value = v; after = c }) uncommon
-
-    go : (t : Bool) → eqb o 0x18 ≡ t → (made t).kind ≢ 0 → Found (Write o v) c ≡ Found (common_event (made t).kind (made t).value) (made t).after
-    go true e z = λ i. Found (Write (eqb-true o 0x18 e i) v) c
-    go false e z = absurd (z refl)
-common_stands (Found (signal Tick) c) z = refl
-common_stands (Found (signal Outside) c) z = absurd (z refl)
-common_stands (Found (signal Trigger) c) z = absurd (z refl)
-common_stands (Found (signal Passed) c) z = absurd (z refl)
-common_stands (Found (signal Failed) c) z = absurd (z refl)
-common_stands (Found (signal Settled) c) z = absurd (z refl)
-common_stands (Found (PowerUp x) c) z = absurd (z refl)
-common_stands (Found (Read o) c) z = absurd (z refl)
-common_stands (Over x) z = absurd (z refl)

@@ -10,35 +10,33 @@ mod exported;
 mod hurry;
 mod parts;
 mod shortcuts;
-mod tails;
 mod whole;
 
 pub use exported::nergutsai_list;
 
-// How a listing went: so many bytes of text; or the output is too short, and needs so many. The latter is no refusal of the file.
-#[derive(Clone, Copy)]
-pub enum Listed {
-    Text(usize),
-    Short(usize),
+// An output that is too short, and how many bytes it has to have. This is no refusal of the file.
+#[derive(Clone, Copy, Debug, PartialEq, Eq)]
+pub struct ShortOutput {
+    pub needed: usize,
 }
 
-// The listing of a session file on a board with this sample memory. What stands past the text in the output is left as it was; an
-// output that is too short is left as it was, and so is the memory.
-pub fn list(s: &[u8], memory: &mut [u32], out: &mut [u8]) -> Listed
+// The listing of a session file on a board with this sample memory, as so many bytes of text. What stands past the text in the output is
+// left as it was; an output that is too short is left as it was, and so is the memory.
+pub fn list(s: &[u8], memory: &mut [u32], out: &mut [u8]) -> Result<usize, ShortOutput>
     ensures { Lists s.now memory.old out.old result memory.new out.new }
 {
     let too_long = 65536 < s.len();
     if too_long {
         if out.len() < 9 {
-            return Listed::Short(9);
+            return Err(ShortOutput { needed: 9 });
         }
-        return Listed::Text(put_text(out, 0, b"TOO LONG\n"));
+        return Ok(put_text(out, 0, b"TOO LONG\n"));
     }
     let room = 160 + 22 * s.len();
     let short = out.len() < room;
     if short {
-        return Listed::Short(room);
+        return Err(ShortOutput { needed: room });
     }
     let at = put_text(out, 0, b"REHEARSAL 1\n");
-    Listed::Text(put_body(s, memory, out, at))
+    Ok(put_body(s, memory, out, at))
 }

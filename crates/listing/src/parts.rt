@@ -1,24 +1,8 @@
-// The record of a run, put together of its parts.
+// A core with other levels.
 ghost use Rattle.std.specs.Prelude.{◌≡◌};
 ghost use Rattle.moves.specs.Promises.{with_levels};
-ghost use Rattle.listing.specs.Shortcuts.{board_as};
 
-use rules::{
-    Board, Burst, Calibration, Clock, Control, Core, Load, Lost, Mode, Options, Outputs, Ring,
-};
-
-// What neither a load nor a tick changes stands in `rest`.
-pub(crate) fn whole(rest: Board, core: Core, ring: Ring) -> Board
-    ensures { result ≡ board_as rest core ring }
-{
-    let size = rest.size;
-    Board {
-        core: core,
-        size: size,
-        request: rest.request,
-        ring: ring,
-    }
-}
+use rules::{Burst, Calibration, Clock, Control, Core, Load, Lost, Mode, Options, Outputs};
 
 // Field by field: of parts that are copied whole, the compiler keeps groups of flags in memory and waits for them.
 pub(crate) fn with_levels(core: Core, levels: [u16; 20]) -> Core

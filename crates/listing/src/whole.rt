@@ -6,38 +6,42 @@ ghost use Rattle.file_rules.specs.File.{session};
 ghost use Rattle.file_rules.specs.Pieces.{Piece};
 ghost use Rattle.listing_rules.specs.Listing.{body};
 
-use crate::hurry::hurry;
-use crate::tails::put_end;
+use crate::hurry::{Reached, hurry};
 use board::step;
-use lines::put_line;
+use lines::{put_line, put_tail};
 use record::unpowered;
-use run::{Ahead, Cursor};
+use run::Cursor;
 
 // The loop over the session: loads and ticks are done by `hurry`, one after another, and the event before which it stops by `step`.
 pub(crate) fn put_body(s: &[u8], memory: &mut [u32], out: &mut [u8], start: usize) -> usize
     requires { (length s.now ≤ 65536) × (start + 134 + 22 * length s.now ≤ length out.old) }
     ensures { Piece out.old start (body 1 (initially memory.old) (session s.now)) out.new result × (memory.new ≡ (after (initially memory.old) (session s.now).events).memory) }
 {
-    let mut at = start;
-    let mut b = unpowered();
     let mut c = Cursor { place: 0 };
-    let mut number: u32 = 1;
+    let mut reached = Reached {
+        board: unpowered(),
+        at: start,
+        number: 1,
+    };
     loop {
-        let q = hurry(s, c, b, at, number, memory, out);
-        let board = q.board;
-        let n = q.ahead;
-        match n {
-            Ahead::Found(e, after) => {
-                let r = step(board, memory, e);
-                let answer = r.answer;
-                b = r.board;
-                at = put_line(out, q.at, q.number, answer, b.ring.count);
-                number = q.number + 1;
+        let (here, ahead) = hurry(s, c, reached, memory, out);
+        let levels = here.board.core.outputs.levels;
+        match ahead {
+            Ok(Some((event, after))) => {
+                let reply = step(here.board, memory, event);
+                let board = reply.board;
+                let at = put_line(out, here.at, here.number, reply.answer, board.ring.count);
+                let number = here.number + 1;
+                reached = Reached { board, at, number };
                 c = after;
             }
-            Ahead::Over(end) => {
-                let levels = board.core.outputs.levels;
-                return put_end(out, q.at, end, levels);
+            Ok(None) => {
+                return put_tail(out, here.at, None, levels);
+            }
+            // the place is printed as a number of 32 bits
+            Err(error) => {
+                let refused = (error.fault, error.place as u32);
+                return put_tail(out, here.at, Some(refused), levels);
             }
         }
     }

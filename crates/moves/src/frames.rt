@@ -5,6 +5,7 @@ ghost use Rattle.rules.specs.Clocks.{coded, burst_after, load_after};
 use rules::{Burst, Load};
 
 // 01: "Offset binary makes the level equal the data; two's complement adds 8000h mod 10000h."
+#[tactic(auto, unfolding(rules::specs::Clocks::coded))]
 pub(crate) fn coded(binary: bool, v: u32) -> u16
     ensures { result ≡ coded binary v }
 {
@@ -17,6 +18,7 @@ pub(crate) fn coded(binary: bool, v: u32) -> u16
 }
 
 // 01: "a burst ends"
+#[tactic(auto, unfolding(rules::specs::Clocks::burst_after))]
 pub(crate) fn burst_after(ended: bool, x: Burst) -> Burst
     ensures { result ≡ burst_after ended x }
 {
@@ -24,6 +26,7 @@ pub(crate) fn burst_after(ended: bool, x: Burst) -> Burst
 }
 
 // 01: "opened becomes closed; else pending becomes opened"
+#[tactic(auto, unfolding(rules::specs::Clocks::load_after))]
 pub(crate) fn load_after(ended: bool, x: Load) -> Load
     ensures { result ≡ load_after ended x }
 {

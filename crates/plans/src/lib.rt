@@ -52,6 +52,7 @@ impl Plan {
 }
 
 // The plan of an event that is not refused.
+#[tactic(auto, unfolding(crate::specs::Plan::planned))]
 pub fn plan_of(c: Core, e: Event) -> Plan
     ensures { Told (planned c e) result }
 {

@@ -11,12 +11,14 @@ use rules::{Burst, Calibration, Clock, Core, Signal};
 use status::tick_accepted;
 
 // 01: "Clocks and triggers that are not accepted answer 0 and change nothing."
+#[tactic(auto, unfolding(crate::specs::Parts::clocks_if))]
 pub(crate) fn clocks_if(accepted: bool) -> Act
     ensures { result ≡ clocks_if accepted }
 {
     if accepted { Act::Clocks } else { Act::Nothing }
 }
 
+#[tactic(auto, unfolding(rules::specs::Clocks::on_trigger))]
 pub(crate) fn on_trigger(c: Core) -> Core
     ensures { result ≡ (on_trigger c).core }
 {
@@ -32,6 +34,7 @@ pub(crate) fn on_trigger(c: Core) -> Core
 }
 
 // 01: "A calibration end clears D13, sets "calibrated" and sets D14 on failure."
+#[tactic(auto, unfolding(rules::specs::Play::calibration_ends))]
 pub(crate) fn calibration_ends(c: Core, failure: bool) -> Core
     ensures { result ≡ (calibration_ends c failure).core }
 {
@@ -45,6 +48,7 @@ pub(crate) fn calibration_ends(c: Core, failure: bool) -> Core
     }
 }
 
+#[tactic(auto, unfolding(rules::specs::Play::settles))]
 pub(crate) fn settled(c: Core) -> Core
     ensures { result ≡ (settles c).core }
 {

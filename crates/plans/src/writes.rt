@@ -1,4 +1,5 @@
-// Writes as changes of the core, and what the write to each offset plans.
+// Writes as changes of the core, and what the write to each offset plans. A bit of the value is tested by the arithmetic of the rules'
+// `bit`, so that a test and its definition compute alike.
 ghost use Rattle.std.specs.Prelude.{◌≡◌};
 ghost use Rattle.plans.specs.Parts.{core_of, buffer_act};
 ghost use Rattle.plans.specs.Plan.{write_plan};
@@ -8,10 +9,11 @@ use crate::signals::clocks_if;
 use crate::states::clock_accepted;
 use crate::{Act, Plan};
 use record::mask_limit;
-use rules::{Burst, Calibration, Clock, Control, Core, Event, Load, Lost, Mode, Options, Outputs};
-use status::initialises;
+use rules::{Burst, Calibration, Clock, Control, Core, Load, Lost, Mode, Options, Outputs};
+use status::write_initialises;
 
 // 01: "Initialise: BCR 00000810h, mask of all fitted channels, divisor 0064h, .." What is not written here is zero.
+#[tactic(auto, unfolding(rules::specs::Writes::initial))]
 pub(crate) fn initial(o: Options) -> Core
     ensures { result ≡ initial o }
 {
@@ -51,6 +53,7 @@ pub(crate) fn control_of(v: u32) -> Control
 }
 
 // 01: "D0 = 0 ends a burst"; "D2 = 1 with D0 set and no burst starts one"
+#[tactic(auto, unfolding(rules::specs::Writes::burst_of))]
 pub(crate) fn burst_of(v: u32, x: Burst) -> Burst
     ensures { result ≡ burst_of v x }
 {
@@ -69,6 +72,7 @@ pub(crate) fn burst_of(v: u32, x: Burst) -> Burst
 }
 
 // 01: "changed D7 sets the cursor to 0"
+#[tactic(auto, unfolding(rules::specs::Writes::cursor_of))]
 pub(crate) fn cursor_of(was: bool, is: bool, n: u32) -> u32
     ensures { result ≡ cursor_of was is n }
 {
@@ -76,6 +80,7 @@ pub(crate) fn cursor_of(was: bool, is: bool, n: u32) -> u32
 }
 
 // 01: "D13 = 1 starts calibration, clearing D14 and "calibrated""
+#[tactic(auto, unfolding(rules::specs::Writes::calibration_of))]
 pub(crate) fn calibration_of(v: u32, x: Calibration) -> Calibration
     ensures { result ≡ calibration_of v x }
 {
@@ -90,6 +95,7 @@ pub(crate) fn calibration_of(v: u32, x: Calibration) -> Calibration
     }
 }
 
+#[tactic(auto, unfolding(rules::specs::Writes::write_control))]
 pub(crate) fn write_control(c: Core, v: u32) -> Core
     ensures { result ≡ (write_control c v).core }
 {
@@ -111,6 +117,7 @@ pub(crate) fn write_control(c: Core, v: u32) -> Core
 }
 
 // 01: "04h keeps the bits of fitted channels and sets the cursor to 0."
+#[tactic(auto, unfolding(rules::specs::Writes::write_mask))]
 pub(crate) fn write_mask(c: Core, v: u32) -> Core
     ensures { result ≡ (write_mask c v).core }
 {
@@ -125,6 +132,7 @@ pub(crate) fn write_mask(c: Core, v: u32) -> Core
 }
 
 // 01: "08h keeps 16 bits."
+#[tactic(auto, unfolding(rules::specs::Writes::write_rate))]
 pub(crate) fn write_rate(c: Core, v: u32) -> Core
     ensures { result ≡ (write_rate c v).core }
 {
@@ -138,6 +146,7 @@ pub(crate) fn write_rate(c: Core, v: u32) -> Core
 }
 
 // 01: "1Ch keeps Nclk (D8..0) and ALT (D9); a changed Nclk with EXTERNAL CLOCK set starts settling"
+#[tactic(auto, unfolding(rules::specs::Writes::write_adjust))]
 pub(crate) fn write_adjust(c: Core, v: u32) -> Core
     ensures { result ≡ (write_adjust c v).core }
 {
@@ -174,6 +183,7 @@ pub(crate) fn lost_of(v: u32, x: Lost) -> Lost
 }
 
 // 01: "D8 = 0 drops pending and opened; D11 = 1 .. drops pending and opened"
+#[tactic(auto, unfolding(rules::specs::Writes::load_kept))]
 pub(crate) fn load_kept(v: u32, x: Load) -> Load
     ensures { result ≡ load_kept v x }
 {
@@ -182,6 +192,7 @@ pub(crate) fn load_kept(v: u32, x: Load) -> Load
 }
 
 // 01: "if circular and not opened, pending = D9"
+#[tactic(auto, unfolding(rules::specs::Writes::load_asked))]
 pub(crate) fn load_asked(v: u32, x: Load) -> Load
     ensures { result ≡ load_asked v x }
 {
@@ -197,6 +208,7 @@ pub(crate) fn load_asked(v: u32, x: Load) -> Load
 }
 
 // The core of a BOR write when its software clock is tried.
+#[tactic(auto, unfolding(rules::specs::Writes::buffer_of))]
 pub(crate) fn buffer_of(v: u32, c: Core) -> Core
     ensures { result ≡ buffer_of v c }
 {
@@ -217,6 +229,7 @@ pub(crate) fn buffer_of(v: u32, c: Core) -> Core
 }
 
 // A write that changes the core alone. The last arm of a `match` on the offset would not know which offsets it is none of.
+#[tactic(auto, unfolding(crate::specs::Parts::core_of))]
 pub(crate) fn write_core(c: Core, o: u32, v: u32) -> Core
     ensures { result ≡ core_of c o v }
 {
@@ -244,6 +257,7 @@ pub(crate) fn buffer_act(v: u32, accepted: bool) -> Act
 }
 
 // A write to any offset that takes one.
+#[tactic(auto, unfolding(crate::specs::Plan::write_plan, crate::specs::Plan::buffer_plan, rules::specs::Size::initialises))]
 pub(crate) fn on_write(c: Core, o: u32, v: u32) -> Plan
     ensures { result ≡ write_plan c o v }
 {
@@ -258,10 +272,7 @@ pub(crate) fn on_write(c: Core, o: u32, v: u32) -> Plan
             core: c,
             act: Act::Loads(v),
         }
-    } else if initialises(Event::Write {
-        offset: o,
-        value: v,
-    }) {
+    } else if write_initialises(o, v) {
         Plan::initial(c.options)
     } else {
         Plan::core_alone(write_core(c, o, v))

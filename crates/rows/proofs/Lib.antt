@@ -1,5 +1,5 @@
 -- The laws of specs/Laws, and what the functions' proofs cite; each file opens with what it shows.
-pub mod Stores
+pub mod FromFn
 pub mod RowLevels
 pub mod Rows
 pub mod Casts

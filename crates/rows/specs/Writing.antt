@@ -37,8 +37,12 @@ clock_row c b l o =
 abbrev pub ring_row : Outputs → Bool → Ring → List ℕ
 ring_row o request r = o.mask ∷ o.cursor ∷ flag request ∷ r.first ∷ r.count ∷ []
 
-unfoldable pub board_row : Board → List ℕ
-board_row b =
+-- all of a row but the levels
+abbrev pub fields_row : Board → List ℕ
+fields_row b =
     let c = b.core in
     head_row c.powered c.options b.size ++ control_row c.control ++ modes_row c.mode c.calibration
-    ++ clock_row c.clock c.burst c.load c.lost ++ ring_row c.outputs b.request b.ring ++ c.outputs.levels
+    ++ clock_row c.clock c.burst c.load c.lost ++ ring_row c.outputs b.request b.ring
+
+unfoldable pub board_row : Board → List ℕ
+board_row b = fields_row b ++ b.core.outputs.levels

@@ -6,7 +6,7 @@ ghost use Rattle.rows.specs.Promises.{told_of, Put};
 
 pub use crate::places::ROW_LONG;
 use crate::reading::board_in;
-use crate::writing::put_whole;
+use crate::writing::row_of;
 use rules::Board;
 
 mod places;
@@ -17,22 +17,24 @@ mod writing;
 pub fn board_at(row: &[u32]) -> Board
     ensures { Told (told_of row.now) result }
 {
-    if row.len() == ROW_LONG {
-        return board_in(row);
+    match row.as_array() {
+        Some(row) => board_in(row),
+        None => board_in(&[0; ROW_LONG]),
     }
-    let zeros = [0u32; ROW_LONG];
-    board_in(&zeros)
 }
 
-// A row of another length is left as it was, and answered false.
-#[tactic(auto, unfolding(crate::specs::Promises::row_written))]
-pub fn put_board(b: Board, row: &mut [u32]) -> bool
+// The row has another length than 55.
+#[derive(Clone, Copy, Debug, PartialEq, Eq)]
+pub struct WrongLength;
+
+// A row of another length is left as it was, and answered `WrongLength`.
+pub fn put_board(b: Board, row: &mut [u32]) -> Result<(), WrongLength>
     ensures { Put b row.old result row.new }
 {
     let other = row.len() != ROW_LONG;
     if other {
-        return false;
+        return Err(WrongLength);
     }
-    put_whole(b, row);
-    true
+    row.copy_from_slice(&row_of(b));
+    Ok(())
 }

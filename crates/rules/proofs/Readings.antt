@@ -1,6 +1,6 @@
 -- A list of bits and the number that it reads: bit by bit, and field by field.
---   bit-number      bit k of what is read is entry k of the list
---   number-field    a field of n bits, and then the rest
+--   bit_number      bit k of what is read is entry k of the list
+--   number_field    a field of n bits, and then the rest
 use Prim.Native.Nat.{ℕ, zero, suc, ◌+◌, ◌*◌, ◌/◌, ◌%◌, ◌^◌, ◌≤◌, ◌<◌}
 use mathlib.Core.Path.{◌≡◌, refl, sym, ap, ◌∙◌}
 use mathlib.Core.Bool.{Bool, true, false}

@@ -1,5 +1,5 @@
 -- A core with one part put anew: the rules say what changes, and these say that the rest stays.
---   withX x c    the core c with x for its part X
+--   with_burst x c, ..            the core c with x for its burst, and so for each part
 --   no_burst, no_load, no_loss    the states that an initialise leaves
 use Rattle.std.specs.Prelude.{ℕ, false}
 use Rattle.rules.specs.Types.{Control, Mode, Calibration, Clock, Burst, Load, Lost, Outputs, Core}

@@ -1,6 +1,6 @@
 -- What the bus writes (01, "Registers", and the loads of "Stored values, clocks and bursts").
---   initial o           the core that initialise and power-up leave, with the options o
---   xOf v ..            what becomes of the part x when v is written
+--   initial o            the core that initialise and power-up leave, with the options o
+--   control_of v, ..     what becomes of the control bits, and so of each part, when v is written
 --   on_write c buf full  the write to each offset; a write that 01 refuses never comes here
 -- The size code (BOR D00-D03) and the interrupt request (BCR D11) are no part of the core: Size.antt and Interrupt.antt.
 use Rattle.std.specs.Prelude.{ℕ, ◌/◌, ◌%◌, ◌^◌, ◌-◌, Bool, true, false, not, ◌&&◌, ◌||◌, cond, List, eqb, replicate}

@@ -17,7 +17,7 @@ use Rattle.file_rules.proofs.Rests.{rest_start, rest_got, rest_over}
 use Rattle.run.specs.declared.Cursor.{Cursor}
 use Rattle.run.specs.Ahead.{Ahead}
 use Rattle.run.specs.Ahead.{Found, Over}
-use Rattle.run.specs.Run.{ahead_of, found}
+use Rattle.run.specs.Run.{at_cursor, found}
 use Rattle.run.specs.Way.{Way-start, Way-on, Way-over, Way-ends}
 
 -- ---- What stands at a cursor, as the file says it
@@ -38,11 +38,11 @@ abbrev end_ahead : Ahead → End
 end_ahead (Found e c) = File
 end_ahead (Over x) = x
 
-got : (i : Item) (e : Event) (after : Cursor) → ahead_of i ≡ Found e after → i ≡ Got e after.place
+got : (i : Item) (e : Event) (after : Cursor) → at_cursor i ≡ Found e after → i ≡ Got e after.place
 got (Got d n) e after h = λ j. Got (event_in (h j)) (place_in (h j))
 got (over x) e after h = absurd (false≢true (ap is_found h))
 
-ended : (i : Item) (x : End) → ahead_of i ≡ Over x → i ≡ over x
+ended : (i : Item) (x : End) → at_cursor i ≡ Over x → i ≡ over x
 ended (Got d n) x h = absurd (true≢false (ap is_found h))
 ended (over y) x h = λ j. over (end_ahead (h j))
 

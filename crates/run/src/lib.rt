@@ -7,14 +7,15 @@ ghost use Rattle.rules.specs.Record.{unpowered};
 ghost use Rattle.rules.specs.Told.{Told};
 ghost use Rattle.rules.specs.ToldInNumbers.{ToldInNumbers};
 ghost use Rattle.run.specs.Promises.{Advances, Runs};
+ghost use Rattle.run.specs.Ahead.{ahead_of};
 ghost use Rattle.run.specs.Run.{found};
 ghost use Rattle.run.specs.Numbers.{ahead_numbers};
 
 use board::step;
-use file_rules::{End, Item};
+use file_rules::FileError;
 use reader::read_at;
 use record::unpowered;
-use rules::{Answer, Board, Event};
+use rules::{Board, Done, Event, Refusal};
 
 // How far a session has been read.
 #[derive(Clone, Copy)]
@@ -22,19 +23,11 @@ pub struct Cursor {
     pub place: usize,
 }
 
-// What stands at a cursor: an event, and the cursor after it; or how the file ends.
-#[derive(Clone, Copy)]
-pub enum Ahead {
-    Found(Event, Cursor),
-    Over(End),
-}
+// What stands at a cursor: an event, and the cursor after it; nothing, where the file ends; or why it is refused.
+pub type Ahead = Result<Option<(Event, Cursor)>, FileError>;
 
-// One record: the event's answer and the cursor after it; or how the file ends.
-#[derive(Clone, Copy)]
-pub enum Progress {
-    Played(Answer, Cursor),
-    Ended(End),
-}
+// One record: the event's answer and the cursor after it; nothing, where the file ends; or why it is refused.
+pub type Progress = Result<Option<(Result<Done, Refusal>, Cursor)>, FileError>;
 
 #[derive(Clone, Copy)]
 pub struct Advanced {
@@ -45,38 +38,36 @@ pub struct Advanced {
 // The board that a session leaves, and how the file ends.
 #[derive(Clone, Copy)]
 pub struct Ran {
-    pub end: End,
+    pub end: Result<(), FileError>,
     pub board: Board,
 }
 
 // The event at the cursor, or how the file ends.
 pub fn next(s: &[u8], c: Cursor) -> Ahead
-    ensures { ToldInNumbers ahead_numbers (found s.now c) result }
+    ensures { ToldInNumbers ahead_numbers (found s.now c) (ahead_of result) }
 {
-    let item = read_at(s, c.place);
-    match item {
-        Item::Got(e, place) => Ahead::Found(e, Cursor { place: place }),
-        Item::Over(end) => Ahead::Over(end),
-    }
+    let item = read_at(s, c.place)?;
+    Ok(item.map(|(event, place)| (event, Cursor { place })))
 }
 
 // The record at the cursor, played on a board and its sample memory. Where the file ends the board comes back as it was given.
 pub fn advance(s: &[u8], c: Cursor, b: Board, memory: &mut [u32]) -> Advanced
     ensures { Advances s.now c b memory.old result memory.new }
 {
-    let n = next(s, c);
-    match n {
-        Ahead::Found(e, after) => {
-            let r = step(b, memory, e);
-            let answer = r.answer;
-            let left = r.board;
+    match next(s, c) {
+        Ok(Some((event, after))) => {
+            let r = step(b, memory, event);
             Advanced {
-                progress: Progress::Played(answer, after),
-                board: left,
+                progress: Ok(Some((r.answer, after))),
+                board: r.board,
             }
         }
-        Ahead::Over(end) => Advanced {
-            progress: Progress::Ended(end),
+        Ok(None) => Advanced {
+            progress: Ok(None),
+            board: b,
+        },
+        Err(x) => Advanced {
+            progress: Err(x),
             board: b,
         },
     }
@@ -94,18 +85,21 @@ fn start() -> Board
 pub fn run(s: &[u8], memory: &mut [u32]) -> Ran
     ensures { Runs s.now memory.old result memory.new }
 {
-    let mut b = start();
+    let mut board = start();
     let mut c = Cursor { place: 0 };
     loop {
-        let a = advance(s, c, b, memory);
-        b = a.board;
-        let p = a.progress;
-        match p {
-            Progress::Played(_, next) => {
-                c = next;
+        let a = advance(s, c, board, memory);
+        board = a.board;
+        let progress = a.progress;
+        match progress {
+            Ok(Some((_, after))) => {
+                c = after;
             }
-            Progress::Ended(x) => {
-                return Ran { end: x, board: b };
+            Ok(None) => {
+                return Ran { end: Ok(()), board };
+            }
+            Err(x) => {
+                return Ran { end: Err(x), board };
             }
         }
     }

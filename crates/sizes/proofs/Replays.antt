@@ -8,6 +8,7 @@ use lib.ListN.{length}
 use Rattle.rules.specs.declared.Event.{Event}
 use Rattle.rules.specs.declared.Board.{Board}
 use Rattle.rules.specs.Types.{Answer}
+use Rattle.rules.specs.Numbered.{answer_of}
 use Rattle.rules.specs.Record.{State, state_of, unpowered}
 use Rattle.rules.specs.Step.{Outcome, step}
 use Rattle.rules.specs.Session.{after}
@@ -72,20 +73,21 @@ module _ (k : ℕ) where
       }
 
   module _ {s m memory : List ℕ} {b : Board} {c : Cursor} {t : Bool} (r : Replaying s m memory b c t) where
-    pub replaying_on : (e e' : Event) (after : Cursor) (o : Reply) (memory' : List ℕ) → found s c ≡ Found e after → e' ≡ sized k e
+    pub replaying_on : (e e' : Event) (after : Cursor) (o : Reply) (lost : Bool) (memory' : List ℕ) → found s c ≡ Found e after → e' ≡ sized k e
         → Stepped b memory e' o memory'
+        → lost ≡ eqb (answer_of o.answer).fate 2
         → length memory' ≡ length memory
-        → Replaying s m memory' o.board after (t && not (eqb o.answer.fate 2))
-    replaying_on e e' after o memory' f q p l =
+        → Replaying s m memory' o.board after (t && not lost)
+    replaying_on e e' after o lost memory' f q p h l =
         let here : Replay = replay_of b memory t in
         let on = way_on Replay Replay Comes s (replay_of unpowered m true) here (onward here e) c after e r.way f (played here e) in
         let boards = p.board ∙ ap (λ (d : Event). (step (state_of b memory) d).state.board) q in
         let memories = p.memory ∙ ap (λ (d : Event). (step (state_of b memory) d).state.memory) q in
-        let fates = ap (λ (a : Answer). a.fate) p.answer ∙ ap (λ (d : Event). (step (state_of b memory) d).answer.fate) q in
+        let fates = h ∙ ap (λ (a : Answer). eqb a.fate 2) p.answer ∙ ap (λ (d : Event). eqb (step (state_of b memory) d).answer.fate 2) q in
         record {
           long = l ∙ r.long;
           way = subst (λ (x : Replay). OnWay s m x after)
-              (λ i. replay_of ((sym boards) i) ((sym memories) i) (t && not (eqb ((sym fates) i) 2)))
+              (λ i. replay_of ((sym boards) i) ((sym memories) i) (t && not ((sym fates) i)))
               on;
         }
 

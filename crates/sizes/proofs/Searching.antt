@@ -6,6 +6,7 @@ use mathlib.Core.List.{List}
 use native.Mathlib.Omega.{arith}
 use borrow.Author.Tests.{lt-ltb, le-ltb}
 use lib.Dec.{ltb}
+use Rattle.std.specs.Prelude.{Some, None}
 use lib.ListN.{length}
 use Rattle.rules.specs.declared.Event.{Event}
 use Rattle.rules.specs.Record.{start}
@@ -15,7 +16,7 @@ use Rattle.file_rules.specs.File.{session}
 use Rattle.size_rules.specs.Coded.{sized_all}
 use Rattle.demand3.specs.Demand3.{loses_nothing}
 use Rattle.size_rules.specs.Smallest.{replays, plays_in_turn, lowest_from, codes, lowest, replayed}
-use Rattle.sizes.specs.Replaying.{ReplayTold, LowestTold}
+use Rattle.sizes.specs.Replaying.{ReplayTold, found_code, LowestTold}
 
 -- it stands before the code k with this memory; m is the memory at the start
 pub record Trying (s m memory : List ℕ) (k : ℕ) : Type 0 where
@@ -61,23 +62,23 @@ module _ {s m memory : List ℕ} {k : ℕ} (t : Trying s m memory k) where
         rest = sym (cond_false _ _ _ (sym q.0 ∙ h)) ∙ one_more l;
       })
 
-  pub trying_found : (r : Bool) (memory' : List ℕ) → k < codes → ReplayTold s memory k r memory' → r ≡ true → LowestTold s m k memory'
+  pub trying_found : (r : Bool) (memory' : List ℕ) → k < codes → ReplayTold s memory k r memory' → r ≡ true → LowestTold s m (Some k) memory'
   unfolding es
   trying_found r memory' l p h =
       let q = told r memory' p in
       let e : k ≡ lowest es m = sym (cond_true _ _ _ (sym q.0 ∙ h)) ∙ one_more l in
       record {
-        code = e;
+        code = sym (cond_true (ltb k codes) _ _ (lt-ltb k codes l)) ∙ ap found_code e;
         memory = q.1 ∙ ap (replays es m) (sym (cond_true (ltb k codes) _ _ (lt-ltb k codes l)) ∙ ap replayed e);
       }
 
-  pub trying_none : codes ≤ k → LowestTold s m k memory
+  pub trying_none : codes ≤ k → LowestTold s m None memory
   unfolding es lowest_from
   trying_none h =
       let z : codes - k ≡ 0 = omega (arith, h) in
       let w : codes ≡ k = omega (arith, h, t.within) in
       let e : k ≡ lowest es m = sym (ap (λ (n : ℕ). lowest_from (plays_in_turn (session s).events m) n k) z) ∙ t.rest in
       record {
-        code = e;
+        code = sym (cond_false (ltb k codes) _ _ (le-ltb k codes h)) ∙ ap found_code e;
         memory = t.replayed_so ∙ ap (replays es m) (sym w ∙ sym (cond_false (ltb k codes) _ _ (le-ltb k codes h)) ∙ ap replayed e);
       }

@@ -1,3 +1,4 @@
+pub mod Numbered
 pub mod Replaying
 pub mod Promises
 pub mod Unique

@@ -1,6 +1,6 @@
 -- Any two outcomes that the promise allows are equal.
 use Rattle.std.specs.Prelude.{ℕ, ◌≡◌, List}
-use Rattle.sizes.specs.declared.Smallest.{Smallest}
+use Rattle.sizes.specs.Numbered.{Smallest}
 use Rattle.sizes.specs.Promises.{SizeNamed}
 
 abbrev pub SizeNamed-unique : Type 0

@@ -8,7 +8,14 @@ use crate::smallest_size;
 pub fn nergutsai_smallest_size(file: &[u8], memory: &mut [u32], code: &mut u32) -> u32
     ensures { SizeNamed file.now memory.old (record { refusal = result; code = code.new }) memory.new }
 {
-    let a = smallest_size(file, memory);
-    *code = a.code;
-    a.refusal
+    match smallest_size(file, memory) {
+        Ok(named) => {
+            *code = named;
+            0
+        }
+        Err(why) => {
+            *code = 0;
+            u32::from(why)
+        }
+    }
 }

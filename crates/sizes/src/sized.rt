@@ -11,16 +11,13 @@ pub(crate) fn sized(code: u32, e: Event) -> Event
 {
     match e {
         Event::Write { offset, value } => {
-            if offset == 0x0C {
-                return Event::Write {
-                    offset,
-                    value: value / 16 * 16 + code,
-                };
-            }
-            e
+            let value = if offset == 0x0C {
+                value / 16 * 16 + code
+            } else {
+                value
+            };
+            Event::Write { offset, value }
         }
-        Event::PowerUp(_) => e,
-        Event::Read { .. } => e,
-        Event::Signal(_) => e,
+        _ => e,
     }
 }

@@ -1,7 +1,7 @@
 -- Floats that are whole numbers of 65,536ths, and how the kit compares them.
 --   Height x h   x times 65,536, and 655,360 more, is the natural number h: so the order of such floats is that of their heights
---   lt-heights, le-heights, heights-le, not-zero   `<`, `<=` and `== 0.0` of them
---   share-value, minus-value                       what n / 65,536 and its opposite are
+--   lt_heights, le_heights, heights_le, not_zero   `<`, `<=` and `== 0.0` of them
+--   share_value, minus_value                       what n / 65,536 and its opposite are
 use Prim.Native.Nat.{ℕ, ◌+◌, ◌*◌, ◌^◌, ◌≤◌, ◌<◌}
 use mathlib.Core.Path.{◌≡◌, refl, sym, ap, ap₂, ◌∙◌, subst}
 use mathlib.Core.Bool.{Bool, true, false, not, ◌&&◌, ◌||◌, beq, true≢false}

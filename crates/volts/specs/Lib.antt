@@ -1,3 +1,4 @@
+pub mod Numbered
 pub mod Watching
 pub mod Observing
 pub mod Promises

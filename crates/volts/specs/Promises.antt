@@ -1,7 +1,7 @@
 -- What the public function and the exported one promise: each fixes every outcome, the sample memory too.
 use Rattle.std.specs.Prelude.{ℕ, ◌≡◌, List, [], ◌∷◌, Float}
 use Rattle.volt_rules.specs.declared.Extremes.{Extremes}
-use Rattle.volt_rules.specs.declared.Table.{Table}
+use Rattle.volts.specs.Numbered.{Table}
 use Rattle.volt_rules.specs.Table.{table_refusal, table_channels, table_memory}
 
 -- volts(s, m) = r, and m is m' afterwards
@@ -10,6 +10,9 @@ pub record Tabled (s m : List ℕ) (r : Table) (m' : List ℕ) : Type 0 where
   pub channels : r.channels ≡ table_channels s m
   -- 02: "The sample memory is as the run left it", also where the session is refused
   pub memory : m' ≡ table_memory s m
+
+abbrev pub three : Extremes → List Float
+three x = x.lowest ∷ x.highest ∷ x.last ∷ []
 
 -- lowest, highest and last, channel after channel
 unfoldable pub numbers_of : List Extremes → List Float

@@ -1,6 +1,6 @@
 -- Any two outcomes that a promise allows are equal. The proofs are in proofs/.
 use Rattle.std.specs.Prelude.{ℕ, ◌≡◌, List, Float}
-use Rattle.volt_rules.specs.declared.Table.{Table}
+use Rattle.volts.specs.Numbered.{Table}
 use Rattle.volts.specs.Promises.{Tabled, VoltsCalled}
 
 abbrev pub Tabled-unique : Type 0

@@ -1,38 +1,27 @@
 // The record of one channel, updated with the volts that it has after an event.
 ghost use Rattle.std.specs.Prelude.{◌≡◌};
-ghost use Rattle.volt_rules.specs.Extremes.{lesser, greater};
-ghost use Rattle.volts.specs.Watching.{entered};
+ghost use Rattle.volts.specs.Watching.{at_once, entered};
 
 use volt_rules::Extremes;
 
-fn lesser_of(x: f32, y: f32) -> f32
-    ensures { result ≡ lesser x y }
+// 02: "another accepted power-up starts afresh": the three are what the channel has now.
+pub(crate) fn at_once(v: f32) -> Extremes
+    ensures { result ≡ at_once v }
 {
-    if y < x { y } else { x }
-}
-
-fn greater_of(x: f32, y: f32) -> f32
-    ensures { result ≡ greater x y }
-{
-    if x < y { y } else { x }
-}
-
-// 02: "another accepted power-up starts afresh": then the three are what the channel has now.
-pub(crate) fn enter(fresh: bool, x: Extremes, v: f32) -> Extremes
-    ensures { result ≡ entered fresh x v }
-{
-    if fresh {
-        return Extremes {
-            lowest: v,
-            highest: v,
-            last: v,
-        };
-    }
-    let lowest = lesser_of(x.lowest, v);
-    let highest = greater_of(x.highest, v);
     Extremes {
-        lowest,
-        highest,
+        lowest: v,
+        highest: v,
+        last: v,
+    }
+}
+
+// The tests stand here, since `min` and `max` of f32 may answer either of two zeros.
+pub(crate) fn entered(x: Extremes, v: f32) -> Extremes
+    ensures { result ≡ entered x v }
+{
+    Extremes {
+        lowest: if v < x.lowest { v } else { x.lowest },
+        highest: if x.highest < v { v } else { x.highest },
         last: v,
     }
 }

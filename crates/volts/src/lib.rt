@@ -2,60 +2,35 @@
 // starts the table afresh and initialise, which can leave the same record, does not: so it goes by `run::next` and `board::step`.
 #![tactic(auto)]
 
-ghost use Rattle.volts.specs.Observing.{Observes};
+ghost use Rattle.volts.specs.Numbered.{table_of};
 ghost use Rattle.volts.specs.Promises.{Tabled};
 
-use crate::running::{close, refused, starts_afresh, watch};
-use board::step;
+use crate::running::Observed;
 use record::unpowered;
-use rules::{Board, Event};
-use run::{Ahead, Cursor, next};
-use volt_rules::Table;
+use run::{Cursor, next};
+use volt_rules::Extremes;
 
 mod channel;
 mod exported;
 mod levels;
+mod refusal;
 mod running;
 
 pub use exported::nergutsai_volts;
-
-// The board and the table after an event.
-#[derive(Clone, Copy)]
-struct Observed {
-    board: Board,
-    table: Table,
-}
-
-// One event on a board and its sample memory: the levels that it leaves are entered in the table.
-fn observe(t: Table, b: Board, memory: &mut [u32], e: Event) -> Observed
-    ensures { Observes t b memory.old e result memory.new }
-{
-    let r = step(b, memory, e);
-    let board = r.board;
-    let answer = r.answer;
-    let table = watch(t, starts_afresh(e, answer.refusal), board);
-    Observed { board, table }
-}
+pub use refusal::VoltRefusal;
 
 // The table of a session file, run over the lent sample memory, which is left as the run leaves it. A file of any length is taken.
-pub fn volts(s: &[u8], memory: &mut [u32]) -> Table
-    ensures { Tabled s.now memory.old result memory.new }
+pub fn volts(s: &[u8], memory: &mut [u32]) -> Result<[Extremes; 20], VoltRefusal>
+    ensures { Tabled s.now memory.old (table_of result) memory.new }
 {
-    let mut b = unpowered();
+    let mut seen = Observed {
+        board: unpowered(),
+        channels: None,
+    };
     let mut c = Cursor { place: 0 };
-    let mut t = refused(18);
-    loop {
-        let n = next(s, c);
-        match n {
-            Ahead::Found(e, after) => {
-                let o = observe(t, b, memory, e);
-                b = o.board;
-                t = o.table;
-                c = after;
-            }
-            Ahead::Over(end) => {
-                return close(t, end);
-            }
-        }
+    while let Some((e, after)) = next(s, c)? {
+        seen.observe(memory, e);
+        c = after;
     }
+    seen.channels.ok_or(VoltRefusal::NoPowerUp)
 }

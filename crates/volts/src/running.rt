@@ -1,89 +1,84 @@
-// The table of a session as it runs: until a power-up is accepted it is the one that 18 refuses, and from then on it is that of the
-// levels that counted.
-ghost use Rattle.std.specs.Prelude.{◌≡◌, ◌&&◌, eqb};
+// A session as it runs, with the table of the levels that counted so far.
+ghost use Rattle.std.specs.Prelude.{◌≡◌, ◌<◌, ◌&&◌, eqb, get_or};
+ghost use Rattle.rules.specs.Numbered.{answer_of};
 ghost use Rattle.volt_rules.specs.Counting.{is_power_up};
-ghost use Rattle.volts.specs.Watching.{AllEntered, RecordEntered, Watched, refused_table, closed_table};
+ghost use Rattle.volt_rules.specs.Volts.{volts_of};
+ghost use Rattle.volts.specs.Observing.{Observes};
+ghost use Rattle.volts.specs.Watching.{no_channel, at_once, entered, AllStarted, AllEntered, Watched};
 
-use crate::channel::enter;
+use crate::channel::{at_once, entered};
 use crate::levels::volts_of;
-use file_rules::End;
-use kinds::fault_number;
-use rules::{Board, Event};
-use volt_rules::{Extremes, Table};
+use board::step;
+use rules::{Board, Done, Event, Refusal};
+use std::array::from_fn;
+use volt_rules::Extremes;
 
-// 02: "all of them return all zeros"
-pub(crate) fn refused(refusal: u32) -> Table
-    ensures { result ≡ refused_table refusal }
-{
-    let zeros = Extremes {
-        lowest: 0.0,
-        highest: 0.0,
-        last: 0.0,
-    };
-    let channels = [zeros; 20];
-    Table { refusal, channels }
+// The board after an event, and the three numbers of each channel: none until a power-up is accepted.
+#[derive(Clone, Copy)]
+pub(crate) struct Observed {
+    pub(crate) board: Board,
+    pub(crate) channels: Option<[Extremes; 20]>,
 }
 
-// The twenty channels, one after another.
-fn enter_all(fresh: bool, table: [Extremes; 20], range: u32, levels: [u16; 20]) -> [Extremes; 20]
-    ensures { AllEntered fresh table range levels result }
-{
-    let mut t = table;
-    let mut k: usize = 0;
-    while k < 20 {
-        let x = t[k];
-        let v = volts_of(range, levels[k]);
-        let y = enter(fresh, x, v);
-        t[k] = y;
-        k += 1;
+impl Observed {
+    // One event on the board and its sample memory: the levels that it leaves are entered in the table.
+    pub(crate) fn observe(&mut self, memory: &mut [u32], e: Event)
+        ensures { Observes self.old memory.old e self.new memory.new }
+    {
+        let r = step(self.board, memory, e);
+        self.board = r.board;
+        let fresh = starts_afresh(e, r.answer);
+        watch(&mut self.channels, fresh, &r.board);
     }
-    t
-}
-
-// 02: "Levels right after an accepted power-up and after each later event count": b is the record after an event.
-fn enter_record(fresh: bool, table: [Extremes; 20], b: Board) -> Table
-    ensures { RecordEntered fresh b table result }
-{
-    let core = b.core;
-    let options = core.options;
-    let outputs = core.outputs;
-    let levels = outputs.levels;
-    let channels = enter_all(fresh, table, options.range, levels);
-    Table {
-        refusal: 0,
-        channels,
-    }
-}
-
-// Before the first accepted power-up nothing counts.
-pub(crate) fn watch(t: Table, fresh: bool, b: Board) -> Table
-    ensures { Watched fresh b t result }
-{
-    if !fresh & (t.refusal != 0) {
-        return t;
-    }
-    let channels = t.channels;
-    enter_record(fresh, channels, b)
 }
 
 // An accepted power-up; initialise is none.
-pub(crate) fn starts_afresh(e: Event, refusal: u32) -> bool
-    ensures { result ≡ is_power_up e && eqb refusal 0 }
+#[tactic(auto, unfolding(volt_rules::specs::Counting::is_power_up))]
+fn starts_afresh(e: Event, answer: Result<Done, Refusal>) -> bool
+    ensures { result ≡ is_power_up e && eqb (answer_of answer).refusal 0 }
 {
+    let accepted = answer.is_ok();
     match e {
-        Event::PowerUp(_) => refusal == 0,
-        Event::Write { .. } => false,
-        Event::Read { .. } => false,
-        Event::Signal(_) => false,
+        Event::PowerUp(_) => accepted,
+        _ => false,
     }
 }
 
-// 02: "file refusals 10 to 13 come first"
-pub(crate) fn close(t: Table, end: End) -> Table
-    ensures { result ≡ closed_table t end }
+// 02: "Levels right after an accepted power-up and after each later event count": b is the record after an event. Before the first
+// accepted power-up nothing counts.
+fn watch(channels: &mut Option<[Extremes; 20]>, fresh: bool, b: &Board)
+    ensures { Watched fresh b.now channels.old channels.new }
 {
-    match end {
-        End::File => t,
-        End::Refused(why, _) => refused(fault_number(why)),
+    let range = b.core.options.range;
+    let levels = b.core.outputs.levels;
+    if fresh {
+        *channels = Some(start_all(range, levels));
+        return;
     }
+    let Some(x) = channels else {
+        return;
+    };
+    *x = enter_all(*x, range, levels);
+}
+
+fn start_all(range: u32, levels: [u16; 20]) -> [Extremes; 20]
+    ensures { AllStarted range levels result }
+{
+    levels.map(
+        |level|
+            ensures { result ≡ at_once (volts_of range level) }
+        { at_once(volts_of(range, level)) },
+    )
+}
+
+// The twenty channels, one after another.
+fn enter_all(channels: [Extremes; 20], range: u32, levels: [u16; 20]) -> [Extremes; 20]
+    ensures { AllEntered channels range levels result }
+{
+    from_fn(
+        |k|
+            requires { k < 20 }
+            ensures { result ≡ entered (get_or channels k no_channel) (volts_of range (get_or levels k 0)) }
+        { entered(channels[k], volts_of(range, levels[k])) },
+    )
 }

@@ -1,5 +1,5 @@
 -- A row of 55 numbers is read; for any other a row of zeros is, which says the unpowered record.
-use mathlib.Core.Path.{◌≡◌, refl, ◌∙◌}
+use mathlib.Core.Path.{◌≡◌, refl, ap, ◌∙◌}
 use borrow.Author.Tests.{eq-eqb, ne_eqb}
 use lib.ListN.{replicate}
 use Rattle.rules.specs.Record.{unpowered}
@@ -12,10 +12,12 @@ zeros_unpowered : board_at (replicate row_long 0) ≡ unpowered
 unfolding board_at core_at levels_at unpowered
 zeros_unpowered = refl
 
-pub returns-then-row-eq-ROW_LONG : goal.returns-then-row-eq-ROW_LONG
+pub returns-in-Some : goal.returns-in-Some
 unfolding told_of
-returns-then-row-eq-ROW_LONG c = record { told = rw (eq-eqb _ _ c.if-row-eq-ROW_LONG.true) c.board_in.ensures }
+returns-in-Some c =
+    let whole = c.in-Some.ensures.cases in
+    record { told = rw (eq-eqb _ _ whole.long) (c.board_in.ensures ∙ ap board_at whole.same) }
 
-pub returns : goal.returns
+pub returns-in-None : goal.returns-in-None
 unfolding told_of
-returns c = record { told = rw (ne_eqb _ _ c.if-row-eq-ROW_LONG.false) (c.board_in-2.ensures ∙ zeros_unpowered) }
+returns-in-None c = record { told = rw (ne_eqb _ _ c.in-None.ensures.cases) (c.board_in-in-None.ensures ∙ zeros_unpowered) }

@@ -7,8 +7,8 @@ use Rattle.run.specs.Way.{Way}
 use Rattle.run.proofs.Leaves.{Leaves}
 use Rattle.run.proofs.run.Given as goal
 
-abbrev pub invariant-loop-next : goal.invariant-loop-next
-invariant-loop-next l = (length l.memory ≡ length l.initial.memory) × Way Leaves l.s (start l.initial.memory) (state_of l.b l.memory) l.c
+abbrev pub invariant-loop-after : goal.invariant-loop-after
+invariant-loop-after l = (length l.memory ≡ length l.initial.memory) × Way Leaves l.s (start l.initial.memory) (state_of l.board l.memory) l.c
 
-abbrev pub decreases-loop-next : goal.decreases-loop-next
-decreases-loop-next l = length l.s - l.c.place
+abbrev pub decreases-loop-after : goal.decreases-loop-after
+decreases-loop-after l = length l.s - l.c.place

@@ -1,23 +1,29 @@
-use mathlib.Core.Path.{sym, ◌∙◌}
+use mathlib.Core.Path.{sym, ap, ◌∙◌}
+use Rattle.std.proofs.Common.{Ok}
+use Rattle.std.proofs.lemmas.Result.{err_from_is_err_and}
+use Rattle.run.specs.Ahead.{ahead_of}
 use Rattle.run.proofs.Ways.{way_ends}
-use Rattle.volts.proofs.Tabling.{running_start, running_on, running_over}
+use Rattle.volts.proofs.Tabling.{running_start, running_on, running_refused, running_over}
 use Rattle.volts.proofs.volts.Goals as goal
 
 pub loop-e-init : goal.loop-e-init
-loop-e-init c = running_start _ _ _ _ c.unpowered-b.ensures.told c.refused-t.ensures
+loop-e-init c = running_start _ _ _ c.unpowered.ensures.told
+
+pub returns-in_err-e : goal.returns-in_err-e
+returns-in_err-e c =
+    let x = c.in_err-e.field-0.0 in
+    let p = err_from_is_err_and c.from_residual.result c.from_residual.ensures.1 in
+    rw (p.1, p.2) (running_refused c.loop-e.invariant x.fault x.place (sym c.next.ensures.told ∙ ap ahead_of c.in_err-e.was))
 
 pub loop-e-smaller : goal.loop-e-smaller
 loop-e-smaller c =
-    way_ends c.args.s.now c.loop-e.c _ _ (sym c.next-n.ensures.told ∙ c.in-Found.is)
+    way_ends c.args.s.now c.loop-e.c _ _ (sym c.next.ensures.told ∙ ap ahead_of (c.in_ok-e.was ∙ ap Ok c.in-Some.is))
 
 pub loop-e-preserved : goal.loop-e-preserved
 loop-e-preserved c =
-    let o = c.observe-o in
-    running_on c.loop-e.invariant _ _ _ _ (sym c.next-n.ensures.told ∙ c.in-Found.is) o.ensures o.auto.memory
+    let o = c.observe in
+    running_on c.loop-e.invariant _ _ _ _ (sym c.next.ensures.told ∙ ap ahead_of (c.in_ok-e.was ∙ ap Ok c.in-Some.is)) o.ensures o.auto.memory
 
-pub shape_of-memory-in-Over : goal.shape_of-memory-in-Over
-shape_of-memory-in-Over c = c.loop-e.invariant.long
-
-pub returns-in-Over : goal.returns-in-Over
-returns-in-Over c =
-    running_over c.loop-e.invariant _ _ (sym c.next-n.ensures.told ∙ c.in-Over.is) c.close.ensures
+pub returns : goal.returns
+returns c =
+    rw c.ok_or.ensures.value (running_over c.loop-e.invariant (sym c.next.ensures.told ∙ ap ahead_of (c.in_ok-e.was ∙ ap Ok c.in_default.is)))

@@ -5,7 +5,7 @@ use Rattle.volts.proofs.Tabling.{Running}
 use Rattle.volts.proofs.volts.Given as goal
 
 abbrev pub invariant-loop-e : goal.invariant-loop-e
-invariant-loop-e l = Running l.s l.initial.memory l.memory l.b l.c l.t
+invariant-loop-e l = Running l.s l.initial.memory l.memory l.seen l.c
 
 abbrev pub decreases-loop-e : goal.decreases-loop-e
 decreases-loop-e l = length l.s - l.c.place

@@ -19,13 +19,13 @@ returns-then-idle-count c =
     let h : idle a.c || ltb a.count (length (targets a.c)) ≡ true = sym (λ i. c.idle.ensures i || ltb a.count (c.group_size-size.ensures i)) ∙ c.if-idle-count.true in
     sym (cond_true _ _ _ c.if-c.true ∙ moving_count a.c a.count ∙ cond_true _ _ _ h)
 
-pub returns-then-c : goal.returns-then-c
+pub returns-else-idle-count : goal.returns-else-idle-count
 unfolding to_move sober
-returns-then-c c =
+returns-else-idle-count c =
     let a = c.args in
     let h : idle a.c || ltb a.count (length (targets a.c)) ≡ false = sym (λ i. c.idle.ensures i || ltb a.count (c.group_size-size.ensures i)) ∙ c.if-idle-count.false in
     c.group_size-size.ensures ∙ sym (cond_true _ _ _ c.if-c.true ∙ moving_count a.c a.count ∙ cond_false _ _ _ h)
 
-pub returns : goal.returns
+pub returns-else-c : goal.returns-else-c
 unfolding to_move sober
-returns c = sym (cond_false _ _ _ c.if-c.false)
+returns-else-c c = sym (cond_false _ _ _ c.if-c.false)

@@ -14,5 +14,5 @@ returns-then-c c =
     let size = ap length (targets_simultaneous c.args.c c.if-c.true) ∙ active_ones 20 0 m (rw e c.requires) ∙ ap ones e in
     sym size
 
-pub returns : goal.returns
-returns c = ap length (sym (targets_sequential c.args.c c.if-c.false))
+pub returns-else-c : goal.returns-else-c
+returns-else-c c = ap length (sym (targets_sequential c.args.c c.if-c.false))

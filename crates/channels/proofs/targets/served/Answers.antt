@@ -12,9 +12,9 @@ pub returns-then-c : goal.returns-then-c
 unfolding served_by
 returns-then-c c = sym (cond_true _ _ _ c.if-c.true)
 
-pub returns : goal.returns
+pub returns-else-c : goal.returns-else-c
 unfolding served_by
-returns c =
+returns-else-c c =
     let n = c.next_channel.ensures in
     ap (λ (x : ℕ). x % 2 ^ 32) (one-mul _) ∙ mod-eq_of_lt (pow-lt {j = 32} (omega (arith, n.1)))
     ∙ ap (λ (k : ℕ). 2 ^ k) n.0

@@ -1,46 +1,55 @@
 use mathlib.Core.Path.{refl, sym, subst, ◌∙◌}
 use native.Mathlib.Omega.{arith}
-use borrow.Author.Tests.{not-false}
+use Rattle.rules.specs.declared.Core.{Core}
 use Rattle.run.proofs.Ways.{way_ends}
-use Rattle.listing.specs.declared.hurry.Hurried.{Hurried}
-use Rattle.listing.specs.Draft.{board_now, draft, Hurries}
+use Rattle.lines.proofs.Printing.{printed_piece}
+use Rattle.listing.specs.declared.hurry.Reached.{Reached}
+use Rattle.listing.specs.Shortcuts.{board_as, reply_of}
+use Rattle.listing.specs.Draft.{board_now, draft, Walked}
 use Rattle.listing.proofs.Walking.{walked_start, walked_then, walked_on, line_room, number_small}
 use Rattle.listing.proofs.hurry.hurry.Goals as goal
 
-pub loop-levels-init : goal.loop-levels-init
-loop-levels-init c =
+pub loop-common-init : goal.loop-common-init
+loop-common-init c =
     (refl, refl, walked_start c.args.s.now c.args.from _ c.requires.1)
 
-pub shape_of-memory-then-not-ready : goal.shape_of-memory-then-not-ready
-shape_of-memory-then-not-ready c = c.loop-levels.invariant.0
+pub shape_of-memory-in_default : goal.shape_of-memory-in_default
+shape_of-memory-in_default c = c.loop-common.invariant.0
 
-pub shape_of-out-then-not-ready : goal.shape_of-out-then-not-ready
-shape_of-out-then-not-ready c = c.loop-levels.invariant.1
+pub shape_of-out-in_default : goal.shape_of-out-in_default
+shape_of-out-in_default c = c.loop-common.invariant.1
 
-pub returns-then-not-ready : goal.returns-then-not-ready
-returns-then-not-ready c =
+pub returns-in_default : goal.returns-in_default
+returns-in_default c =
     let a = c.args in
-    subst (λ (r : Hurried). Hurries a.s.now a.from (draft a.b a.memory.now a.out.now a.place a.first) r c.loop-levels.memory c.loop-levels.out) (sym c.stopped.ensures)
-    (record { cursor = c.loop-levels.c; stands = c.next-n.ensures.told; walked = c.loop-levels.invariant.2 })
+    let l = c.loop-common in
+    let at : Core → Reached = λ x. record { board = board_as a.start.board x l.ring; at = l.at; number = l.number } in
+    record {
+      cursor = l.c;
+      stands = c.next-ahead.ensures.told;
+      walked = subst (λ (x : Core). Walked a.s.now a.from (draft a.start a.memory.now a.out.now) l.c (draft (at x) l.memory l.out)) (sym c.with_levels.ensures) l.invariant.2;
+    }
 
-pub hasten-h-requires : goal.hasten-h-requires
-hasten-h-requires c =
-    let f = c.loop-levels.invariant.2.fair in
-    (c.depth-d.ensures, sym c.ready.ensures ∙ c.if-not-ready.false, f.sound, line_room _ _ (board_now c.args.b c.loop-levels.core c.loop-levels.levels c.loop-levels.ring) _ _ _ _ f)
+pub at_once-change-requires : goal.at_once-change-requires
+at_once-change-requires c =
+    (record { told = c.depth-d.ensures.told }, c.in-Some.ensures.1, c.loop-common.invariant.2.fair.sound)
 
 pub overflow_add-number : goal.overflow_add-number
 overflow_add-number c =
-    record { fits = omega (arith, number_small _ _ _ _ _ _ _ c.loop-levels.invariant.2.fair c.requires.0) }
+    record { fits = omega (arith, number_small _ _ _ _ _ c.loop-common.invariant.2.fair c.requires.0) }
 
-pub loop-levels-smaller : goal.loop-levels-smaller
-loop-levels-smaller c =
-    way_ends c.args.s.now c.loop-levels.c _ c.hasten-h.ensures.event (sym c.next-n.ensures.told ∙ c.hasten-h.ensures.stands)
+pub loop-common-smaller : goal.loop-common-smaller
+loop-common-smaller c =
+    way_ends c.args.s.now c.loop-common.c _ _ (sym c.next-ahead.ensures.told ∙ c.in-Some.ensures.0)
 
-pub loop-levels-preserved : goal.loop-levels-preserved
-loop-levels-preserved c =
+pub loop-common-preserved : goal.loop-common-preserved
+loop-common-preserved c =
     let a = c.args in
-    let f = c.loop-levels.invariant.2.fair in
-    let now = board_now a.b c.loop-levels.core c.loop-levels.levels c.loop-levels.ring in
-    let stood = sym c.next-n.ensures.told ∙ c.hasten-h.ensures.stands in
-    let on = walked_on a.s.now c.loop-levels.c now c.loop-levels.memory c.loop-levels.out c.loop-levels.at c.loop-levels.number f _ c.hasten-h.ensures.event stood _ _ _ _ c.hasten-h.ensures.stepped c.hasten-h.ensures.written in
-    (c.hasten-h.auto.memory ∙ c.loop-levels.invariant.0, c.hasten-h.auto.out ∙ c.loop-levels.invariant.1, walked_then _ _ _ _ _ _ _ c.loop-levels.invariant.2 on)
+    let l = c.loop-common in
+    let f = l.invariant.2.fair in
+    let now : Reached = record { board = board_now a.start.board l.core l.levels l.ring; at = l.at; number = l.number } in
+    let stood = sym c.next-ahead.ensures.told ∙ c.in-Some.ensures.0 in
+    let line = printed_piece c.put_done-at.ensures (line_room _ _ now _ _ f) in
+    let reply = reply_of (board_as a.start.board l.core l.ring) c.at_once-change.result c.at_once-change.new.levels in
+    let on = walked_on a.s.now l.c now l.memory l.out f _ _ stood reply _ _ _ c.at_once-change.ensures line in
+    (c.at_once-change.auto.memory ∙ l.invariant.0, c.put_done-at.auto.out ∙ l.invariant.1, walked_then _ _ _ _ _ _ _ l.invariant.2 on)

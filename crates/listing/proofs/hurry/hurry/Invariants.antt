@@ -5,9 +5,9 @@ use lib.ListN.{length}
 use Rattle.listing.specs.Draft.{board_now, draft, Walked}
 use Rattle.listing.proofs.hurry.hurry.Given as goal
 
-abbrev pub invariant-loop-levels : goal.invariant-loop-levels
-invariant-loop-levels l = (length l.memory ≡ length l.initial.memory) × (length l.out ≡ length l.initial.out)
-    × Walked l.s l.initial.c (draft l.b l.initial.memory l.initial.out l.place l.first) l.c (draft (board_now l.b l.core l.levels l.ring) l.memory l.out l.at l.number)
+abbrev pub invariant-loop-common : goal.invariant-loop-common
+invariant-loop-common l = (length l.memory ≡ length l.initial.memory) × (length l.out ≡ length l.initial.out)
+    × Walked l.s l.initial.c (draft l.fn.start l.initial.memory l.initial.out) l.c (draft (record { board = board_now l.b l.core l.levels l.ring; at = l.at; number = l.number }) l.memory l.out)
 
-abbrev pub decreases-loop-levels : goal.decreases-loop-levels
-decreases-loop-levels l = length l.s - l.c.place
+abbrev pub decreases-loop-common : goal.decreases-loop-common
+decreases-loop-common l = length l.s - l.c.place

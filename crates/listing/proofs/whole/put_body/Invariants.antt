@@ -5,9 +5,9 @@ use lib.ListN.{length}
 use Rattle.listing.specs.Draft.{draft, Walked}
 use Rattle.listing.proofs.whole.put_body.Given as goal
 
-abbrev pub invariant-loop-e : goal.invariant-loop-e
-invariant-loop-e l = (length l.memory ≡ length l.initial.memory) × (length l.out ≡ length l.initial.out)
-    × Walked l.s (record { place = 0 }) (draft l.initial.b l.initial.memory l.initial.out l.start 1) l.c (draft l.b l.memory l.out l.at l.number)
+abbrev pub invariant-loop-event : goal.invariant-loop-event
+invariant-loop-event l = (length l.memory ≡ length l.initial.memory) × (length l.out ≡ length l.initial.out)
+    × Walked l.s (record { place = 0 }) (draft l.initial.reached l.initial.memory l.initial.out) l.c (draft l.reached l.memory l.out)
 
-abbrev pub decreases-loop-e : goal.decreases-loop-e
-decreases-loop-e l = length l.s - l.c.place
+abbrev pub decreases-loop-event : goal.decreases-loop-event
+decreases-loop-event l = length l.s - l.c.place

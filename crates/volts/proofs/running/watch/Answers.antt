@@ -1,20 +1,15 @@
-use Prim.Native.Nat.{ℕ}
-use mathlib.Core.Path.{◌≡◌, ap, ◌∙◌, subst}
-use mathlib.Core.Bool.{true, false}
-use Rattle.volt_rules.specs.declared.Table.{Table}
-use Rattle.volts.specs.Watching.{table_of}
-use Rattle.volts.proofs.Watching.{waits, nothing_yet, something_yet}
+use mathlib.Core.Path.{sym, ◌∙◌}
+use Rattle.volts.proofs.Watching.{watched_first, watched_none, watched_more}
 use Rattle.volts.proofs.running.watch.Goals as goal
 
-pub returns-then-fresh-t : goal.returns-then-fresh-t
-returns-then-fresh-t c w e same =
-    let a = c.args in
-    let told = subst (λ (n : ℕ). waits a.fresh n ≡ true) (ap (λ (t : Table). t.refusal) e) c.if-fresh-t.true in
-    e ∙ ap table_of (nothing_yet a.fresh a.b w told)
+pub returns-then-fresh : goal.returns-then-fresh
+returns-then-fresh c w e same = watched_first _ c.args.b.now w _ c.if-fresh.true c.start_all.ensures
+
+pub returns-in_default : goal.returns-in_default
+returns-in_default c w e same =
+    let n = c.in_default.is in n ∙ watched_none _ c.args.b.now w c.if-fresh.false (sym n ∙ e)
 
 pub returns : goal.returns
 returns c w e same =
-    let a = c.args in
-    let told = subst (λ (n : ℕ). waits a.fresh n ≡ false) (ap (λ (t : Table). t.refusal) e) c.if-fresh-t.false in
-    let counts = something_yet a.fresh w.levels told in
-    c.enter_record.ensures w (ap (λ (t : Table). t.channels) e) (λ f. (counts f, same f (counts f)))
+    let f = c.if-fresh.false in
+    watched_more _ c.args.b.now w _ _ f (sym c.in-Some.is ∙ e) (same f) c.enter_all.ensures

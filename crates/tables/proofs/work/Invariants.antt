@@ -1,9 +1,0 @@
--- Each turn takes a session.
-use Rattle.std.proofs.Common.{length, ◌-◌, ◌≤◌}
-use Rattle.tables.proofs.work.Given as goal
-
-abbrev pub invariant-loop-at : goal.invariant-loop-at
-invariant-loop-at g l = l.at ≤ length l.text
-
-abbrev pub decreases-loop-at : goal.decreases-loop-at
-decreases-loop-at g l = length l.text - l.at

@@ -1,7 +1,0 @@
-use Rattle.volts.proofs.channel.lesser_of.Goals as goal
-
-pub returns-then-y-x : goal.returns-then-y-x
-returns-then-y-x c = simp c.if-y-x.true
-
-pub returns-else-y-x : goal.returns-else-y-x
-returns-else-y-x c = simp c.if-y-x.false
