@@ -2,16 +2,16 @@
 // where the output has no room for the longest such line, nothing is written and the place comes back.
 #![tactic(auto)]
 
-ghost use Rattle.std.specs.Prelude.{Ok, length};
-ghost use Rattle.rules.specs.Numbered.{answer_of};
-ghost use Rattle.listing_rules.specs.Text.{line};
-ghost use Rattle.lines.specs.Promises.{Printed, tail_of};
+ghost use Rattle.std.specs.Prelude.{length};
+ghost use Rattle.listing_rules.specs.Text.{line, tail};
+ghost use Rattle.lines.specs.Answers.{answer_in};
+ghost use Rattle.lines.specs.Promises.{Printed};
 
+pub use crate::answered::Answered;
 use crate::pieces::put_bytes;
 use crate::whole::{has_room, write_done, write_line, write_tail};
-use file_rules::Fault;
-use rules::{Done, Refusal};
 
+mod answered;
 mod pieces;
 mod whole;
 
@@ -26,42 +26,31 @@ pub fn put_text(out: &mut [u8], at: usize, text: &[u8]) -> usize
 }
 
 // The line of a record: its number, the four answers, the count after.
-pub fn put_line(
-    out: &mut [u8],
-    at: usize,
-    number: u32,
-    answer: Result<Done, Refusal>,
-    count: u32,
-) -> usize
-    ensures { Printed 64 out.old at (line number (answer_of answer) count) out.new result }
+pub fn put_line(out: &mut [u8], at: usize, number: u32, a: Answered, count: u32) -> usize
+    ensures { Printed 64 out.old at (line number (answer_in a) count) out.new result }
 {
     if !has_room(out.len(), at, 64) {
         return at;
     }
-    write_line(out, at, number, answer, count)
+    write_line(out, at, number, a, count)
 }
 
-// The line of an event that was done.
-pub fn put_done(out: &mut [u8], at: usize, number: u32, done: Done, count: u32) -> usize
-    ensures { Printed 64 out.old at (line number (answer_of (Ok done)) count) out.new result }
+// The line of an event that was done and is no read: its refusal and its register are 0.
+pub fn put_done(out: &mut [u8], at: usize, number: u32, moved: u32, fate: u32, count: u32) -> usize
+    ensures { Printed 64 out.old at (line number (record { refusal = 0; register = 0; moved = moved; fate = fate }) count) out.new result }
 {
     if !has_room(out.len(), at, 64) {
         return at;
     }
-    write_done(out, at, number, done, count)
+    write_done(out, at, number, moved, fate, count)
 }
 
-// How a listing ends: the line of a file's refusal, why and at which byte, where there is one, and the levels.
-pub fn put_tail(
-    out: &mut [u8],
-    at: usize,
-    refused: Option<(Fault, u32)>,
-    levels: [u16; 20],
-) -> usize
-    ensures { Printed 134 out.old at (tail_of refused levels) out.new result }
+// How a listing ends: the line of the file refusal n at the byte p, where n is not 0, and the levels.
+pub fn put_tail(out: &mut [u8], at: usize, n: u32, p: u32, levels: [u16; 20]) -> usize
+    ensures { Printed 134 out.old at (tail n p levels) out.new result }
 {
     if !has_room(out.len(), at, 134) {
         return at;
     }
-    write_tail(out, at, refused, levels)
+    write_tail(out, at, n, p, levels)
 }

@@ -1,17 +1,13 @@
 // Whole lines, where there is room for them.
-ghost use Rattle.std.specs.Prelude.{Err, Ok, ◌+◌, ◌≤◌, ◌≡◌, ◌∷◌, leb, length};
+ghost use Rattle.std.specs.Prelude.{◌+◌, ◌≤◌, ◌≡◌, ◌∷◌, leb, length};
 ghost use Rattle.basics.specs.Ascii.{space};
-ghost use Rattle.rules.specs.Clocks.{fate_number};
-ghost use Rattle.rules.specs.Numbered.{answer_of, refusal_number};
-ghost use Rattle.file_rules.specs.File.{fault_number};
-ghost use Rattle.listing_rules.specs.Text.{decimal, line, levels_line};
+ghost use Rattle.listing_rules.specs.Text.{decimal, line, levels_line, file_line, tail};
 ghost use Rattle.file_rules.specs.Pieces.{Piece};
-ghost use Rattle.lines.specs.Pieces.{rest, refusal_line};
-ghost use Rattle.lines.specs.Promises.{tail_of};
+ghost use Rattle.lines.specs.Answers.{answer_in};
+ghost use Rattle.lines.specs.Pieces.{rest};
 
+use crate::Answered;
 use crate::pieces::{put_byte, put_bytes, put_decimal, put_hex, put_long, put_register};
-use file_rules::Fault;
-use rules::{Done, Fate, Refusal};
 
 // Whether an output of this length has n bytes from a place on.
 pub(crate) fn has_room(length: usize, at: usize, n: usize) -> bool
@@ -40,70 +36,32 @@ pub(crate) fn put_rest(out: &mut [u8], at: usize, moved: u32, fate: u32, count: 
     put_byte(out, v, 10)
 }
 
-#[tactic(auto, unfolding(rules::specs::Numbered::refusal_number))]
-fn refusal_number(why: Refusal) -> u32
-    ensures { result ≡ refusal_number why }
-{
-    why as u32
-}
-
-fn fate_number(fate: Fate) -> u32
-    ensures { result ≡ fate_number fate }
-{
-    fate as u32
-}
-
-fn fault_number(why: Fault) -> u32
-    ensures { result ≡ fault_number why }
-{
-    why as u32
-}
-
 // 01: "record number, the four answers, count after"
-pub(crate) fn write_line(
-    out: &mut [u8],
-    at: usize,
-    number: u32,
-    answer: Result<Done, Refusal>,
-    count: u32,
-) -> usize
+pub(crate) fn write_line(out: &mut [u8], at: usize, number: u32, a: Answered, count: u32) -> usize
     requires { at + 64 ≤ length out.old }
-    ensures { Piece out.old at (line number (answer_of answer) count) out.new result }
-{
-    match answer {
-        Ok(done) => write_done(out, at, number, done, count),
-        Err(why) => write_refused(out, at, number, why, count),
-    }
-}
-
-// What is done has the refusal 0. It is compiled into both its callers: of a register that is known to be 0 nothing is asked then.
-#[inline(always)]
-pub(crate) fn write_done(out: &mut [u8], at: usize, number: u32, done: Done, count: u32) -> usize
-    requires { at + 64 ≤ length out.old }
-    ensures { Piece out.old at (line number (answer_of (Ok done)) count) out.new result }
+    ensures { Piece out.old at (line number (answer_in a) count) out.new result }
 {
     let p = put_long(out, at, number);
-    let q = put_field(out, p, 0);
+    let q = put_field(out, p, a.refusal);
     let r = put_byte(out, q, 32);
-    let s = put_register(out, r, done.register);
-    put_rest(out, s, done.moved, fate_number(done.fate), count)
+    let s = put_register(out, r, a.register);
+    put_rest(out, s, a.moved, a.fate, count)
 }
 
-// 01: "On refusal the last three are 0".
-pub(crate) fn write_refused(
+pub(crate) fn write_done(
     out: &mut [u8],
     at: usize,
     number: u32,
-    why: Refusal,
+    moved: u32,
+    fate: u32,
     count: u32,
 ) -> usize
     requires { at + 64 ≤ length out.old }
-    ensures { Piece out.old at (line number (answer_of (Err why)) count) out.new result }
+    ensures { Piece out.old at (line number (record { refusal = 0; register = 0; moved = moved; fate = fate }) count) out.new result }
 {
     let p = put_long(out, at, number);
-    let q = put_field(out, p, refusal_number(why));
-    let s = put_bytes(out, q, b" 00000000");
-    put_rest(out, s, 0, 0, count)
+    let s = put_bytes(out, p, b" 0 00000000");
+    put_rest(out, s, moved, fate, count)
 }
 
 // 01: "levels in four, channel 00 first"
@@ -119,30 +77,26 @@ pub(crate) fn write_levels(out: &mut [u8], at: usize, levels: [u16; 20]) -> usiz
     put_byte(out, p, 10)
 }
 
-// 01: "A file refusal prints `FILE n p`"; where there is none, nothing stands there.
-pub(crate) fn write_file(out: &mut [u8], at: usize, refused: Option<(Fault, u32)>) -> usize
+// 01: "A file refusal prints `FILE n p`"
+pub(crate) fn write_file(out: &mut [u8], at: usize, n: u32, p: u32) -> usize
     requires { at + 27 ≤ length out.old }
-    ensures { Piece out.old at (refusal_line refused) out.new result }
+    ensures { Piece out.old at (file_line n p) out.new result }
 {
-    let Some((why, place)) = refused else {
-        return at;
-    };
     let a = put_bytes(out, at, b"FILE ");
-    let b = put_decimal(out, a, fault_number(why));
-    let c = put_field(out, b, place);
+    let b = put_decimal(out, a, n);
+    let c = put_field(out, b, p);
     put_byte(out, c, 10)
 }
 
 // 01: "before LEVELS"
-pub(crate) fn write_tail(
-    out: &mut [u8],
-    at: usize,
-    refused: Option<(Fault, u32)>,
-    levels: [u16; 20],
-) -> usize
+pub(crate) fn write_tail(out: &mut [u8], at: usize, n: u32, p: u32, levels: [u16; 20]) -> usize
     requires { at + 134 ≤ length out.old }
-    ensures { Piece out.old at (tail_of refused levels) out.new result }
+    ensures { Piece out.old at (tail n p levels) out.new result }
 {
-    let q = write_file(out, at, refused);
+    let unrefused = n == 0;
+    if unrefused {
+        return write_levels(out, at, levels);
+    }
+    let q = write_file(out, at, n, p);
     write_levels(out, q, levels)
 }

@@ -63,4 +63,4 @@ abbrev pub board_of : Board → Change → List ℕ → Board
 board_of b r ls = record { core = core_with b.core r ls; size = b.size; request = b.request; ring = r.frame.ring }
 
 abbrev pub reply_of : Board → Change → List ℕ → Reply
-reply_of b r ls = record { answer = Ok r.done; board = board_of b r ls }
+reply_of b r ls = record { answer = Ok (record { register = 0; moved = r.moved; fate = r.fate }); board = board_of b r ls }

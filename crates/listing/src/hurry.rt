@@ -1,6 +1,7 @@
 // Loads and ticks, one after another: a loop of its own, so that what they do not change stays at hand. The levels, the core and the
 // ring stand in locals, so that an event changes only what it must; the levels of the core are those of the start, and count for nothing.
 ghost use Rattle.std.specs.Prelude.{◌≤◌, ◌≡◌, IfSome, true, length};
+ghost use Rattle.rules.specs.Clocks.{fate_number};
 ghost use Rattle.run.specs.Ahead.{Found, ahead_of};
 ghost use Rattle.listing.specs.Shortcuts.{common_event, quick};
 ghost use Rattle.listing.specs.Draft.{draft, Fair, Walked};
@@ -9,7 +10,7 @@ use crate::parts::with_levels;
 use crate::shortcuts::{Common, at_once, common_of, quick};
 use lines::put_done;
 use record::depth;
-use rules::Board;
+use rules::{Board, Fate};
 use run::{Ahead, Cursor, next};
 
 // How far a session is played and written: the cursor, the board, the place in the output, and the number of the next line.
@@ -36,6 +37,13 @@ pub(crate) fn ready(b: Board, d: u32, ahead: Ahead) -> Option<(Common, Cursor)>
     }
 }
 
+// 01: "load fate (0 none, 1 stored, ..)"
+fn fate_number(fate: Fate) -> u32
+    ensures { result ≡ fate_number fate }
+{
+    fate as u32
+}
+
 pub(crate) fn hurry(s: &[u8], start: Reached, memory: &mut [u32], out: &mut [u8]) -> Reached
     requires { (length s.now ≤ 65536) × Fair s.now start.cursor (draft start memory.old out.old) }
     ensures { Walked s.now start.cursor (draft start memory.old out.old) result.cursor (draft result memory.new out.new) }
@@ -50,7 +58,8 @@ pub(crate) fn hurry(s: &[u8], start: Reached, memory: &mut [u32], out: &mut [u8]
     let mut number = start.number;
     while let Some((common, after)) = ready(Board { core, ring, ..b }, d, next(s, cursor)) {
         let change = at_once(Board { core, ring, ..b }, d, common, &mut levels, memory);
-        at = put_done(out, at, number, change.done, change.frame.ring.count);
+        let fate = fate_number(change.fate);
+        at = put_done(out, at, number, change.moved, fate, change.frame.ring.count);
         core.outputs.cursor = change.cursor;
         core.burst = change.frame.burst;
         core.load = change.frame.load;

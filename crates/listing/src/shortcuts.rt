@@ -9,7 +9,7 @@ ghost use Rattle.rules.specs.Record.{depth, state_of};
 
 use channels::serve;
 use moves::{Frame, deal, load};
-use rules::{Board, Core, Done, Event, Fate, Signal};
+use rules::{Board, Core, Event, Fate, Signal};
 use status::{closed, is_full, tick_accepted};
 
 // A load, that is a write of the value to 18h, or a tick.
@@ -33,7 +33,8 @@ pub(crate) fn common_of(e: Event) -> Option<Common>
 // What an event that was done at once changed beside the levels, and what it answers.
 #[derive(Clone, Copy)]
 pub(crate) struct Change {
-    pub done: Done,
+    pub moved: u32,
+    pub fate: Fate,
     pub cursor: u32,
     pub frame: Frame,
 }
@@ -85,11 +86,8 @@ pub(crate) fn at_once(
         Common::Load(value) => {
             let stored = load(core, d, b.ring, d, value, memory);
             Change {
-                done: Done {
-                    register: 0,
-                    moved: 0,
-                    fate: stored.fate,
-                },
+                moved: 0,
+                fate: stored.fate,
                 cursor: core.outputs.cursor,
                 frame: Frame {
                     ring: stored.ring,
@@ -109,11 +107,8 @@ pub(crate) fn at_once(
                 memory,
             );
             Change {
-                done: Done {
-                    register: 0,
-                    moved: served.moved,
-                    fate: Fate::NoLoad,
-                },
+                moved: served.moved,
+                fate: Fate::NoLoad,
                 cursor: served.cursor,
                 frame,
             }

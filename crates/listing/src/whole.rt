@@ -8,7 +8,8 @@ ghost use Rattle.listing_rules.specs.Listing.{body};
 
 use crate::hurry::{Reached, hurry};
 use board::step;
-use lines::{put_line, put_tail};
+use kinds::fault_number;
+use lines::{Answered, put_line, put_tail};
 use record::unpowered;
 use run::{Cursor, next};
 
@@ -30,7 +31,8 @@ pub(crate) fn put_body(s: &[u8], memory: &mut [u32], out: &mut [u8], start: usiz
             Ok(Some((event, cursor))) => {
                 let reply = step(here.board, memory, event);
                 let board = reply.board;
-                let at = put_line(out, here.at, here.number, reply.answer, board.ring.count);
+                let answered = Answered::from(reply.answer);
+                let at = put_line(out, here.at, here.number, answered, board.ring.count);
                 let number = here.number + 1;
                 reached = Reached {
                     cursor,
@@ -40,12 +42,12 @@ pub(crate) fn put_body(s: &[u8], memory: &mut [u32], out: &mut [u8], start: usiz
                 };
             }
             Ok(None) => {
-                return put_tail(out, here.at, None, levels);
+                return put_tail(out, here.at, 0, 0, levels);
             }
             // the place is printed as a number of 32 bits
             Err(error) => {
-                let refused = (error.fault, error.place as u32);
-                return put_tail(out, here.at, Some(refused), levels);
+                let number = fault_number(error.fault);
+                return put_tail(out, here.at, number, error.place as u32, levels);
             }
         }
     }

@@ -1,11 +1,9 @@
 -- `write_file` meets its contract: its pieces are the line, and after each there is room for the rest.
-use Prim.Native.Nat.{ℕ, ◌+◌, ◌≤◌}
-use mathlib.Core.Path.{refl, subst}
+use Prim.Native.Nat.{◌+◌, ◌≤◌}
 use native.Mathlib.Omega.{arith}
 use lib.ListN.{length}
-use Rattle.listing_rules.specs.Text.{decimal, file_line}
-use Rattle.file_rules.specs.Pieces.{Piece}
-use Rattle.file_rules.proofs.Joined.{then, room_after}
+use Rattle.listing_rules.specs.Text.{file_line}
+use Rattle.file_rules.proofs.Joined.{then, piece_length, room_after}
 use Rattle.listing_rules.proofs.Numbers.{decimal_long, field_long}
 use Rattle.lines.proofs.whole.write_file.Goals as goal
 
@@ -22,13 +20,11 @@ put_byte-requires c =
     let after_field : c.put_field-c.result + 1 ≤ length c.put_field-c.new.out = room_after 11 1 after_decimal c.put_field-c.ensures (field_long _) in
     omega (arith, after_field)
 
-pub returns-in_default : goal.returns-in_default
-returns-in_default c = rw c.in_default.is (record { place = omega arith; text = refl })
-
 pub returns : goal.returns
 unfolding file_line
 returns c =
-    let a = c.put_bytes-a in
-    let b = c.put_decimal-b in
-    let number = subst (λ (n : ℕ). Piece a.new.out a.result (decimal n) b.new.out b.result) c.fault_number.ensures b.ensures in
-    rw c.in-Some.is (then (then (then a.ensures number) c.put_field-c.ensures) c.put_byte.ensures)
+    let two = then c.put_bytes-a.ensures c.put_decimal-b.ensures in
+    then (then two c.put_field-c.ensures) c.put_byte.ensures
+
+pub shape_of-out : goal.shape_of-out
+shape_of-out c = piece_length (returns c)

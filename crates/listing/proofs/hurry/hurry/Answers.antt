@@ -48,7 +48,7 @@ loop-common-preserved c =
     let f = l.invariant.2.fair in
     let now : Reached = record { cursor = l.cursor; board = board_now a.start.board l.core l.levels l.ring; at = l.at; number = l.number } in
     let stood = sym c.next.ensures.told ∙ c.in-Some.ensures.0 in
-    let line = printed_piece c.put_done-at.ensures (line_room _ _ now _ _ f) in
+    let line = printed_piece (rw c.fate_number-fate.ensures at c.put_done-at.ensures) (line_room _ _ now _ _ f) in
     let reply = reply_of (board_as a.start.board l.core l.ring) c.at_once-change.result c.at_once-change.new.levels in
     let on = walked_on a.s.now l.cursor now l.memory l.out f _ _ stood reply _ _ _ c.at_once-change.ensures line in
     (c.at_once-change.auto.memory ∙ l.invariant.0, c.put_done-at.auto.out ∙ l.invariant.1, walked_then _ _ _ _ _ _ _ l.invariant.2 on)
