@@ -57,18 +57,18 @@ byte_ahead s rest at k n d e = sym (ap (λ (x : List ℕ). get_or x k 0) d ∙ g
 room_ahead : (s rest : List ℕ) (at k : ℕ) → rest ≡ drop at s → suc k ≤ length rest → at + suc k ≤ length s
 room_ahead s rest at k d l = omega (arith, l, ap length d, length-drop at s)
 
-word_ahead : (s rest : List ℕ) (at n : ℕ) → rest ≡ drop at s → get_or rest 0 0 ≡ 0 → get_or rest 1 0 ≡ n → word_at s at ≡ n
-word_ahead s rest at n d a b =
+word_ahead : (s rest : List ℕ) (at n : ℕ) → rest ≡ drop at s → 256 * get_or rest 0 0 + get_or rest 1 0 ≡ n → word_at s at ≡ n
+word_ahead s rest at n d w =
     let p : at ≡ at + 0 = omega arith in
-    let x : byte_at s at ≡ 0 = ap (byte_at s) p ∙ byte_ahead s rest at 0 0 d a in
-    omega (arith, x, byte_ahead s rest at 1 n d b)
+    let x : byte_at s at ≡ get_or rest 0 0 = ap (byte_at s) p ∙ byte_ahead s rest at 0 _ d refl in
+    omega (arith, w, x, byte_ahead s rest at 1 _ d refl)
 
 pub tick_ahead : (s rest : List ℕ) (at : ℕ) → (0 < length rest → (at ≢ 0) × (rest ≡ drop at s))
-    → 3 ≤ length rest → get_or rest 0 0 ≡ 0 → get_or rest 1 0 ≡ 1 → get_or rest 2 0 ≡ 4
+    → 3 ≤ length rest → 256 * get_or rest 0 0 + get_or rest 1 0 ≡ 1 → get_or rest 2 0 ≡ 4
     → ToldInNumbers item_numbers (item_at s at) (Got (signal Tick) (at + 3))
-tick_ahead s rest at h l a b k =
+tick_ahead s rest at h l w k =
     let d = h (omega (arith, l)) in
-    told_in_numbers item_numbers (sym (tick_stands s at d.0 (room_ahead s rest at 2 d.1 l) (word_ahead s rest at 1 d.1 a b) (byte_ahead s rest at 2 4 d.1 k)))
+    told_in_numbers item_numbers (sym (tick_stands s at d.0 (room_ahead s rest at 2 d.1 l) (word_ahead s rest at 1 d.1 w) (byte_ahead s rest at 2 4 d.1 k)))
 
 moved : (s : List ℕ) (at j k n : ℕ) → byte_at s (at + (j + k)) ≡ n → byte_at s (at + j + k) ≡ n
 moved s at j k n e =
@@ -80,10 +80,10 @@ four_bytes : (a b c d a' b' c' d' : ℕ) → a ≡ a' → b ≡ b' → c ≡ c' 
 four_bytes a b c d a' b' c' d' p q r t = omega (arith, p, q, r, t)
 
 pub load_ahead : (s rest : List ℕ) (at v : ℕ) → (0 < length rest → (at ≢ 0) × (rest ≡ drop at s))
-    → 8 ≤ length rest → get_or rest 0 0 ≡ 0 → get_or rest 1 0 ≡ 6 → get_or rest 2 0 ≡ 2 → get_or rest 3 0 ≡ 24
+    → 8 ≤ length rest → 256 * get_or rest 0 0 + get_or rest 1 0 ≡ 6 → get_or rest 2 0 ≡ 2 → get_or rest 3 0 ≡ 24
     → v ≡ 16777216 * get_or rest 4 0 + 65536 * get_or rest 5 0 + 256 * get_or rest 6 0 + get_or rest 7 0
     → ToldInNumbers item_numbers (item_at s at) (Got (Write 24 v) (at + 8))
-load_ahead s rest at v h l a b k o e =
+load_ahead s rest at v h l w k o e =
     let d = h (omega (arith, l)) in
     let b5 = byte_ahead s rest at 5 _ d.1 refl in
     let b6 = byte_ahead s rest at 6 _ d.1 refl in
@@ -91,4 +91,4 @@ load_ahead s rest at v h l a b k o e =
     let q = e ∙ four_bytes _ _ _ _ _ _ _ _ (byte_ahead s rest at 4 _ d.1 refl) (moved s at 4 1 _ b5) (moved s at 4 2 _ b6) (moved s (at + 4) 2 1 _ (moved s at 4 3 _ b7)) in
     told_in_numbers item_numbers
     ((λ i. Got (Write 24 (q i)) (at + 8))
-    ∙ sym (load_stands s at d.0 (room_ahead s rest at 7 d.1 l) (word_ahead s rest at 6 d.1 a b) (byte_ahead s rest at 2 2 d.1 k) (byte_ahead s rest at 3 24 d.1 o)))
+    ∙ sym (load_stands s at d.0 (room_ahead s rest at 7 d.1 l) (word_ahead s rest at 6 d.1 w) (byte_ahead s rest at 2 2 d.1 k) (byte_ahead s rest at 3 24 d.1 o)))

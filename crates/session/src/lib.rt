@@ -42,10 +42,14 @@ pub fn item_at(s: &[u8], at: usize) -> Item
     ensures { ToldInNumbers item_numbers (item_at s.now at) (item_of result) }
 {
     let rest = ahead(s, at);
-    if let [0, 1, 4, ..] = rest {
+    if let [high, low, 4, ..] = rest
+        && u16::from_be_bytes([*high, *low]) == 1
+    {
         return Ok(Some((Event::Signal(Signal::Tick), at + 3)));
     }
-    if let [0, 6, 2, 24, a, b, c, d, ..] = rest {
+    if let [high, low, 2, 24, a, b, c, d, ..] = rest
+        && u16::from_be_bytes([*high, *low]) == 6
+    {
         let value = u32::from_be_bytes([*a, *b, *c, *d]);
         return Ok(Some((Event::Write { offset: 24, value }, at + 8)));
     }

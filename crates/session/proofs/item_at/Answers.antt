@@ -3,9 +3,10 @@ use native.Mathlib.Omega.{arith}
 use Rattle.session.proofs.Commonest.{tick_ahead, load_ahead}
 use Rattle.session.proofs.item_at.Goals as goal
 
-pub returns-in-0 : goal.returns-in-0
-returns-in-0 c = tick_ahead _ _ _ c.ahead-rest.ensures c.in-0.len_at_least (omega arith) (omega arith) (omega arith)
+pub returns : goal.returns
+returns c =
+    tick_ahead _ _ _ c.ahead-rest.ensures c.in-4.len_at_least (omega (arith, c.from_be_bytes.ensures, c.if-from_be_bytes-eq1.true)) (omega arith)
 
-pub returns-in-0-rest : goal.returns-in-0-rest
-returns-in-0-rest c =
-    load_ahead _ _ _ _ c.ahead-rest.ensures c.in-0-rest.len_at_least (omega arith) (omega arith) (omega arith) (omega arith) (omega arith)
+pub returns-2 : goal.returns-2
+returns-2 c =
+    load_ahead _ _ _ _ c.ahead-rest.ensures c.in-2.len_at_least (omega (arith, c.from_be_bytes-2.ensures, c.if-from_be_bytes-eq6.true)) (omega arith) (omega arith) (omega arith)
