@@ -1,9 +1,10 @@
 // Files of the working folder, read whole.
+use crate::faults::Wrong;
 use std::io::Read;
 use std::{fs, io};
 
-// Reads the file of this name and ending. One that cannot be opened, or is longer than 65,536 bytes, counts as failed.
-pub(crate) fn read(rt: &HostRuntime, name: &str, ending: &str) -> io::Result<Vec<u8>> {
+// One that is longer than 65,536 bytes counts as failed.
+fn whole(rt: &HostRuntime, name: &str, ending: &str) -> io::Result<Vec<u8>> {
     let path = format!(in rt.alloc(); "{name}{ending}")?;
     let mut bytes = Vec::new(rt.alloc());
     let file = fs::open(rt, path.as_str())?;
@@ -12,4 +13,9 @@ pub(crate) fn read(rt: &HostRuntime, name: &str, ending: &str) -> io::Result<Vec
         return Err(io::Error::other("longer than 65,536 bytes"));
     }
     Ok(bytes)
+}
+
+// The file of this name and ending.
+pub(crate) fn read(rt: &HostRuntime, name: &str, ending: &'static str) -> Result<Vec<u8>, Wrong> {
+    whole(rt, name, ending).map_err(|_| Wrong::Unread(ending))
 }

@@ -6,6 +6,7 @@
 use console::room;
 use difference::first_difference;
 use document::blocks;
+use faults::Wrong;
 use files::read;
 use hex_text::decode;
 use listing::list;
@@ -13,55 +14,53 @@ use std::io;
 
 mod difference;
 mod document;
+mod faults;
 mod files;
-
-// Bytes are counted from 0, as in the `FILE` line of a listing.
-fn compare(rt: &impl Print, name: &str, listed: &[u8], expected: &[u8]) -> io::Result<()> {
-    match first_difference(listed, expected) {
-        None => println!(rt; "{name} as expected"),
-        Some(place) => println!(rt; "{name} differs at byte {place}"),
-    }
-}
 
 // There is as large a sample memory as `rehearse` has, and room for the listing of any session: 160 + 22 · 32,768 bytes, since hex text of
 // 65,536 bytes holds no more than 32,768.
-fn play(rt: &impl Print, name: &str, session: &[u8], expected: &[u8]) -> io::Result<()> {
+fn compare(session: &[u8], expected: &[u8]) -> Result<(), Wrong> {
     let mut memory = [0u32; 16384];
     let mut out = room::<721056>();
-    match list(session, &mut memory, &mut out) {
-        Ok(n) => compare(rt, name, &out[..n.min(out.len())], expected),
+    let Ok(n) = list(session, &mut memory, &mut out) else {
         // never with the room above
-        Err(_) => println!(rt; "{name} is too long"),
+        return Err(Wrong::TooLong);
+    };
+    match first_difference(&out[..n.min(out.len())], expected) {
+        None => Ok(()),
+        Some(place) => Err(Wrong::DiffersAt(place)),
     }
 }
 
-fn play_text(rt: &impl Print, name: &str, text: &[u8], expected: &[u8]) -> io::Result<()> {
+fn play(text: &[u8], expected: &[u8]) -> Result<(), Wrong> {
     let mut session = [0u8; 65537];
-    match decode(text, &mut session) {
-        Ok(n) => play(rt, name, &session[..n.min(session.len())], expected),
-        Err(why) => println!(rt; "{name} {why}"),
-    }
+    let n = decode(text, &mut session)?;
+    compare(&session[..n.min(session.len())], expected)
 }
 
 // NAME.hex against NAME.txt
-fn show(rt: &HostRuntime, name: &str) -> io::Result<()> {
-    let Ok(text) = read(rt, name, ".hex") else {
-        return println!(rt; "{name}.hex cannot be read");
-    };
-    let Ok(expected) = read(rt, name, ".txt") else {
-        return println!(rt; "{name}.txt cannot be read");
-    };
-    play_text(rt, name, text.as_slice(), expected.as_slice())
+fn play_files(rt: &HostRuntime, name: &str) -> Result<(), Wrong> {
+    let text = read(rt, name, ".hex")?;
+    let expected = read(rt, name, ".txt")?;
+    play(text.as_slice(), expected.as_slice())
 }
 
-// The blocks of a document: those of bytes, joined, are a session, and the one of a listing is its listing.
-fn show_document(rt: &HostRuntime, name: &str) -> io::Result<()> {
-    let Ok(doc) = read(rt, name, ".md") else {
-        return println!(rt; "{name}.md cannot be read");
-    };
-    let text = blocks(rt.alloc(), doc.as_slice(), b"```hex")?;
-    let expected = blocks(rt.alloc(), doc.as_slice(), b"```listing")?;
-    play_text(rt, name, text.as_slice(), expected.as_slice())
+// The blocks of a document: those of bytes, joined, are a session, and the one of a listing is its listing. A document counts as unread
+// too where there is no memory for its blocks.
+fn play_document(rt: &HostRuntime, name: &str) -> Result<(), Wrong> {
+    let doc = read(rt, name, ".md")?;
+    let text = blocks(rt.alloc(), doc.as_slice(), b"```hex").map_err(|_| Wrong::Unread(".md"))?;
+    let expected = blocks(rt.alloc(), doc.as_slice(), b"```listing").map_err(|_| Wrong::Unread(
+        ".md",
+    ))?;
+    play(text.as_slice(), expected.as_slice())
+}
+
+fn say(rt: &impl Print, name: &str, outcome: Result<(), Wrong>) -> io::Result<()> {
+    match outcome {
+        Ok(()) => println!(rt; "{name} as expected"),
+        Err(why) => println!(rt; "{name}{why}"),
+    }
 }
 
 fn main(rt: HostRuntime) -> io::Result<()> {
@@ -75,7 +74,7 @@ fn main(rt: HostRuntime) -> io::Result<()> {
         "sequencing",
     ];
     for name in names {
-        show(&rt, name)?;
+        say(&rt, name, play_files(&rt, name))?;
     }
-    show_document(&rt, "SESSION")
+    say(&rt, "SESSION", play_document(&rt, "SESSION"))
 }
