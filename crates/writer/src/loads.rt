@@ -11,6 +11,7 @@ ghost use Rattle.writer.specs.Orders.{order_of, GoodOrder};
 
 use crate::Order;
 use crate::pieces::{put, put_write};
+use channels::ActiveChannels;
 
 // The load of the last value, with EOF. It comes once a session, and its code stays out of the loop.
 #[cold]
@@ -34,20 +35,15 @@ fn put_load(value: u16, end: usize, out: &mut [u8], at: usize) -> usize
     put_write(out, at, 0x18, u32::from(value))
 }
 
-// The loads of a group "in ascending channels". `waiting` is the mask of the channels still to be loaded; `x & (x - 1)` is x without its
-// lowest one, and its zeros say which that was (`Group-zeros` in laws/specs/Search.antt).
+// The loads of a group "in ascending channels".
 fn put_group(group: &[u16], mask: u32, end: usize, out: &mut [u8], to: usize) -> usize
-    requires small { mask < 2 ^ 20 }
     requires inside { (k : ℕ) → Among k (active_from 0 mask) → k < length group.now }
     requires room { to + 8 * length (active_from 0 mask) ≤ length out.old }
     ensures { Piece out.old to (load_records end to (picked group.now (active_from 0 mask))) out.new result }
 {
     let mut at = to;
-    let mut waiting = mask;
-    while waiting != 0 {
-        let k = waiting.trailing_zeros();
-        at = put_load(group[k as usize], end, out, at);
-        waiting = waiting & (waiting - 1);
+    for k in ActiveChannels::of(mask) {
+        at = put_load(group[k], end, out, at);
     }
     at
 }

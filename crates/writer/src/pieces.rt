@@ -1,4 +1,5 @@
-// Bytes put into an output, from a place on; the answer is the place after them.
+// Bytes put into an output, from a place on; the answer is the place after them. A struct that held the output would have to promise in each
+// of its methods that it still holds the same one, so output and place go from call to call.
 ghost use Rattle.std.specs.Prelude.{◌+◌, ◌≤◌, ◌<◌, length};
 ghost use Rattle.rules.specs.declared.Event.TheVariants.{Write as write};
 ghost use Rattle.file_rules.specs.Bytes.{bytes_of};

@@ -1,6 +1,5 @@
 use mathlib.Core.Path.{ap, ◌∙◌}
 use native.Mathlib.Omega.{arith}
-use Rattle.cut_rules.proofs.ChosenNumbers.{mask_small}
 use Rattle.file_rules.proofs.Joined.{then, piece_length}
 use Rattle.writer.proofs.Cutting.{session_long, cutting_start, group_inside, group_fits, cutting_next, cutting_over}
 use Rattle.writer.proofs.loads.put_cut.Goals as goal
@@ -25,9 +24,6 @@ loop-group-init c =
     cutting_start c.requires.good c.requires.room (omega (arith, c.values.ensures)) (then c.put-to.ensures c.put_write-to.ensures) _ _
     (ap (λ x. x.rest.now) c.into_iter-group-iterator.ensures.into_iter_gives ∙ c.chunks_exact-group-items.ensures.rest ∙ c.groups.ensures)
     (ap (λ x. x.size) c.into_iter-group-iterator.ensures.into_iter_gives ∙ c.chunks_exact-group-items.ensures.size)
-
-pub put_group-to-requires-clause-small : goal.put_group-to-requires-clause-small
-put_group-to-requires-clause-small c = mask_small _ _ c.requires.good.grouped c.requires.good.choice
 
 pub put_group-to-requires-clause-inside : goal.put_group-to-requires-clause-inside
 put_group-to-requires-clause-inside c = group_inside c.requires.good c.loop-group.invariant _ _ c.in-Some.ensures.steps.1.0 c.in-Some.ensures.steps.1.1
