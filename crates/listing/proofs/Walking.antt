@@ -57,7 +57,7 @@ module _ (s : List ℕ) (c : Cursor) (k : Reached) (m out : List ℕ) (f : Fair 
     left = sym (λ i. state_of (p.board i) (p.memory i))
 
     -- the line, and then the rest
-    written : Passes Fills (draft k m out) e (draft (record { board = r.board; at = at'; number = k.number + 1 }) m' out')
+    written : Passes Fills (draft k m out) e (draft (record { cursor = after; board = r.board; at = at'; number = k.number + 1 }) m' out')
     unfolding after
     written o x g =
         let told : Piece out k.at (line k.number (step (state_of k.board m) e).answer (step (state_of k.board m) e).state.board.ring.count) out' at' =
@@ -65,7 +65,7 @@ module _ (s : List ℕ) (c : Cursor) (k : Reached) (m out : List ℕ) (f : Fair 
         subst (λ (st : State). Fills o (record { out = out'; at = at'; number = k.number + 1; state = st }) x → Fills o (draft k m out) (record { events = e ∷ x.events; end = x.end })) left
         (λ v. record { text = rw (body_event k.number (state_of k.board m) e x) (then told v.text); memory = v.memory }) g
 
-    pub walked_on : Walked s c (draft k m out) after (draft (record { board = r.board; at = at'; number = k.number + 1 }) m' out')
+    pub walked_on : Walked s c (draft k m out) after (draft (record { cursor = after; board = r.board; at = at'; number = k.number + 1 }) m' out')
     walked_on =
         let grows = item_grows s c.place e after.place (event_stood s c after e h) in
         record {
@@ -75,7 +75,7 @@ module _ (s : List ℕ) (c : Cursor) (k : Reached) (m out : List ℕ) (f : Fair 
             room = omega (arith, f.room, grows.0, grows.1, piece_length w, w.place, line_length k.number (answer_of r.answer) r.board.ring.count);
             sound = subst InRun left (in_run_kept (state_of k.board m) e f.sound);
           };
-          way = λ start v. way_on Page Draft Fills s start (draft k m out) (draft (record { board = r.board; at = at'; number = k.number + 1 }) m' out') c after e v h written;
+          way = λ start v. way_on Page Draft Fills s start (draft k m out) (draft (record { cursor = after; board = r.board; at = at'; number = k.number + 1 }) m' out') c after e v h written;
           nearer = omega (arith, grows.0, grows.1);
         }
 
@@ -91,7 +91,7 @@ walked_over s start c k z out' at' p h w =
 -- the listing after its heading: from an unpowered board on all events are passed, and its end is written
 pub body_written : (s m out : List ℕ) (b : Board) (at : ℕ) (c : Cursor) (k : Reached) (m1 out1 : List ℕ) (z : End) (out' : List ℕ) (at' : ℕ)
     → b ≡ unpowered
-    → Walked s (record { place = 0 }) (draft (record { board = b; at = at; number = 1 }) m out) c (draft k m1 out1)
+    → Walked s (record { place = 0 }) (draft (record { cursor = record { place = 0 }; board = b; at = at; number = 1 }) m out) c (draft k m1 out1)
     → found s c ≡ Over z
     → Piece out1 k.at (ending z k.board.core.outputs.levels) out' at'
     → Piece out at (body 1 (initially m) (session s)) out' at' × (m1 ≡ (after (initially m) (session s).events).memory)

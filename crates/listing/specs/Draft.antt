@@ -2,18 +2,14 @@
 --   Fills o k x          o is the page when the session x is played and written on from the draft k
 --   Fair s c k           at the cursor c the draft k has room for the rest, and its board is one of a run
 --   Walked s c k c' k'   from the cursor c and the draft k, events were played and written as far as c' and k'
-use Rattle.std.specs.Prelude.{ℕ, ◌+◌, ◌*◌, ◌-◌, ◌≤◌, ◌≡◌, List, length, Option, Result}
-use Rattle.rules.specs.declared.Event.{Event}
+use Rattle.std.specs.Prelude.{ℕ, ◌+◌, ◌*◌, ◌-◌, ◌≤◌, ◌≡◌, List, length}
 use Rattle.rules.specs.declared.Core.{Core}
 use Rattle.rules.specs.declared.Ring.{Ring}
 use Rattle.rules.specs.declared.Board.{Board}
 use Rattle.rules.specs.Record.{State, state_of}
 use Rattle.rules.specs.Session.{after}
-use Rattle.file_rules.specs.declared.FileError.{FileError}
 use Rattle.file_rules.specs.File.{Session}
 use Rattle.run.specs.declared.Cursor.{Cursor}
-use Rattle.run.specs.Ahead.{ahead_of}
-use Rattle.run.specs.Run.{found}
 use Rattle.run.specs.Way.{Way}
 use Rattle.file_rules.specs.Pieces.{Piece}
 use Rattle.listing.specs.declared.hurry.Reached.{Reached}
@@ -57,9 +53,3 @@ pub record Walked (s : List ℕ) (c : Cursor) (k : Draft) (c' : Cursor) (k' : Dr
 -- the board of its parts and these levels
 abbrev pub board_now : Board → Core → List ℕ → Ring → Board
 board_now rest core levels ring = board_with (board_as rest core ring) levels
-
--- what `hurry` leaves: the events as far as a cursor are done, and what stands there is told
-pub record Hurries (s : List ℕ) (c : Cursor) (k : Draft) (r : Reached) (ahead : Result (Option (Event × Cursor)) FileError) (m' out' : List ℕ) : Type 0 where
-  pub cursor : Cursor
-  pub stands : ahead_of ahead ≡ found s cursor
-  pub walked : Walked s c k cursor (draft r m' out')

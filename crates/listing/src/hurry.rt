@@ -3,7 +3,7 @@
 ghost use Rattle.std.specs.Prelude.{◌≤◌, ◌≡◌, IfSome, true, length};
 ghost use Rattle.run.specs.Ahead.{Found, ahead_of};
 ghost use Rattle.listing.specs.Shortcuts.{common_event, quick};
-ghost use Rattle.listing.specs.Draft.{draft, Fair, Hurries};
+ghost use Rattle.listing.specs.Draft.{draft, Fair, Walked};
 
 use crate::parts::with_levels;
 use crate::shortcuts::{Common, at_once, common_of, quick};
@@ -12,9 +12,10 @@ use record::depth;
 use rules::Board;
 use run::{Ahead, Cursor, next};
 
-// How far a session is played and written: the board, the place in the output, and the number of the next line.
+// How far a session is played and written: the cursor, the board, the place in the output, and the number of the next line.
 #[derive(Clone, Copy)]
 pub(crate) struct Reached {
+    pub cursor: Cursor,
     pub board: Board,
     pub at: usize,
     pub number: u32,
@@ -35,35 +36,19 @@ pub(crate) fn ready(b: Board, d: u32, ahead: Ahead) -> Option<(Common, Cursor)>
     }
 }
 
-// As far as these events go, and what stands ahead then.
-pub(crate) fn hurry(
-    s: &[u8],
-    from: Cursor,
-    start: Reached,
-    memory: &mut [u32],
-    out: &mut [u8],
-) -> (Reached, Ahead)
-    requires { (length s.now ≤ 65536) × Fair s.now from (draft start memory.old out.old) }
-    ensures { Hurries s.now from (draft start memory.old out.old) result.0 result.1 memory.new out.new }
+pub(crate) fn hurry(s: &[u8], start: Reached, memory: &mut [u32], out: &mut [u8]) -> Reached
+    requires { (length s.now ≤ 65536) × Fair s.now start.cursor (draft start memory.old out.old) }
+    ensures { Walked s.now start.cursor (draft start memory.old out.old) result.cursor (draft result memory.new out.new) }
 {
     let b = start.board;
     let d = depth(b);
     let mut core = b.core;
     let mut levels = core.outputs.levels;
     let mut ring = b.ring;
-    let mut c = from;
+    let mut cursor = start.cursor;
     let mut at = start.at;
     let mut number = start.number;
-    loop {
-        let ahead = next(s, c);
-        let Some((common, after)) = ready(Board { core, ring, ..b }, d, ahead) else {
-            let board = Board {
-                core: with_levels(core, levels),
-                ring,
-                ..b
-            };
-            return (Reached { board, at, number }, ahead);
-        };
+    while let Some((common, after)) = ready(Board { core, ring, ..b }, d, next(s, cursor)) {
         let change = at_once(Board { core, ring, ..b }, d, common, &mut levels, memory);
         at = put_done(out, at, number, change.done, change.frame.ring.count);
         core.outputs.cursor = change.cursor;
@@ -71,6 +56,13 @@ pub(crate) fn hurry(
         core.load = change.frame.load;
         ring = change.frame.ring;
         number += 1;
-        c = after;
+        cursor = after;
+    }
+    let core = with_levels(core, levels);
+    Reached {
+        cursor,
+        board: Board { core, ring, ..b },
+        at,
+        number,
     }
 }

@@ -10,30 +10,34 @@ use crate::hurry::{Reached, hurry};
 use board::step;
 use lines::{put_line, put_tail};
 use record::unpowered;
-use run::Cursor;
+use run::{Cursor, next};
 
 // The loop over the session: loads and ticks are done by `hurry`, one after another, and the event before which it stops by `step`.
 pub(crate) fn put_body(s: &[u8], memory: &mut [u32], out: &mut [u8], start: usize) -> usize
     requires { (length s.now ≤ 65536) × (start + 134 + 22 * length s.now ≤ length out.old) }
     ensures { Piece out.old start (body 1 (initially memory.old) (session s.now)) out.new result × (memory.new ≡ (after (initially memory.old) (session s.now).events).memory) }
 {
-    let mut c = Cursor { place: 0 };
     let mut reached = Reached {
+        cursor: Cursor { place: 0 },
         board: unpowered(),
         at: start,
         number: 1,
     };
     loop {
-        let (here, ahead) = hurry(s, c, reached, memory, out);
+        let here = hurry(s, reached, memory, out);
         let levels = here.board.core.outputs.levels;
-        match ahead {
-            Ok(Some((event, after))) => {
+        match next(s, here.cursor) {
+            Ok(Some((event, cursor))) => {
                 let reply = step(here.board, memory, event);
                 let board = reply.board;
                 let at = put_line(out, here.at, here.number, reply.answer, board.ring.count);
                 let number = here.number + 1;
-                reached = Reached { board, at, number };
-                c = after;
+                reached = Reached {
+                    cursor,
+                    board,
+                    at,
+                    number,
+                };
             }
             Ok(None) => {
                 return put_tail(out, here.at, None, levels);

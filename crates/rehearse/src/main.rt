@@ -26,6 +26,6 @@ fn work(program: &Program<'_>) -> Result<(), Said> {
 fn main(rt: HostRuntime) {
     let _ = work(&Program {
         rt: &rt,
-        name: "rehearse",
+        name: b"rehearse",
     });
 }

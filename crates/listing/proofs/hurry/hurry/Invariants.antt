@@ -7,7 +7,7 @@ use Rattle.listing.proofs.hurry.hurry.Given as goal
 
 abbrev pub invariant-loop-common : goal.invariant-loop-common
 invariant-loop-common l = (length l.memory ≡ length l.initial.memory) × (length l.out ≡ length l.initial.out)
-    × Walked l.s l.initial.c (draft l.fn.start l.initial.memory l.initial.out) l.c (draft (record { board = board_now l.b l.core l.levels l.ring; at = l.at; number = l.number }) l.memory l.out)
+    × Walked l.s l.initial.cursor (draft l.fn.start l.initial.memory l.initial.out) l.cursor (draft (record { cursor = l.cursor; board = board_now l.b l.core l.levels l.ring; at = l.at; number = l.number }) l.memory l.out)
 
 abbrev pub decreases-loop-common : goal.decreases-loop-common
-decreases-loop-common l = length l.s - l.c.place
+decreases-loop-common l = length l.s - l.cursor.place

@@ -31,62 +31,66 @@ loop-event-init c =
           }),
     )
 
-pub hurry-ahead-requires : goal.hurry-ahead-requires
-hurry-ahead-requires c =
+pub hurry-here-requires : goal.hurry-here-requires
+hurry-here-requires c =
     (c.requires.0, c.loop-event.invariant.2.fair)
 
 pub overflow_add-number : goal.overflow_add-number
 overflow_add-number c =
-    record { fits = omega (arith, number_small _ _ _ _ _ c.hurry-ahead.ensures.walked.fair c.requires.0) }
+    record { fits = omega (arith, number_small _ _ c.hurry-here.result _ _ c.hurry-here.ensures.fair c.requires.0) }
 
 pub loop-event-smaller : goal.loop-event-smaller
 loop-event-smaller c =
-    let h = c.hurry-ahead.ensures in
-    let told : c.hurry-ahead.result.1 ≡ Ok (Some (c.in-Ok-Some.event, c.in-Ok-Some.after)) = search (rules, c.in-Ok-Some.is, c.in-Ok-Some.field-0-is) in
-    let stood = sym h.stands ∙ ap ahead_of told in
-    omega (arith, h.walked.nearer, way_ends c.args.s.now h.cursor c.in-Ok-Some.after c.in-Ok-Some.event stood)
+    let h = c.hurry-here.ensures in
+    let here = c.hurry-here.result in
+    let told : c.next.result ≡ Ok (Some (c.in-Ok-Some.event, c.in-Ok-Some.cursor)) = search (rules, c.in-Ok-Some.is, c.in-Ok-Some.field-0-is) in
+    let stood = sym c.next.ensures.told ∙ ap ahead_of told in
+    omega (arith, h.nearer, way_ends c.args.s.now here.cursor c.in-Ok-Some.cursor c.in-Ok-Some.event stood)
 
 pub loop-event-preserved : goal.loop-event-preserved
 loop-event-preserved c =
     let l = c.loop-event in
-    let h = c.hurry-ahead.ensures in
-    let here = c.hurry-ahead.result.0 in
-    let told : c.hurry-ahead.result.1 ≡ Ok (Some (c.in-Ok-Some.event, c.in-Ok-Some.after)) = search (rules, c.in-Ok-Some.is, c.in-Ok-Some.field-0-is) in
-    let stood = sym h.stands ∙ ap ahead_of told in
-    let f = h.walked.fair in
+    let h = c.hurry-here.ensures in
+    let here = c.hurry-here.result in
+    let told : c.next.result ≡ Ok (Some (c.in-Ok-Some.event, c.in-Ok-Some.cursor)) = search (rules, c.in-Ok-Some.is, c.in-Ok-Some.field-0-is) in
+    let stood = sym c.next.ensures.told ∙ ap ahead_of told in
+    let f = h.fair in
     let line = printed_piece c.put_line-at.ensures (line_room _ _ here _ _ f) in
-    let on = walked_on _ h.cursor here _ _ f c.in-Ok-Some.after c.in-Ok-Some.event stood _ _ _ _ c.step-reply.ensures line in (
-      c.step-reply.auto.memory ∙ c.hurry-ahead.auto.memory ∙ l.invariant.0,
-      c.put_line-at.auto.out ∙ c.hurry-ahead.auto.out ∙ l.invariant.1,
-      walked_then _ _ _ _ _ _ _ l.invariant.2 (walked_then _ _ _ _ _ _ _ h.walked on),
+    let on = walked_on _ here.cursor here _ _ f c.in-Ok-Some.cursor c.in-Ok-Some.event stood _ _ _ _ c.step-reply.ensures line in (
+      c.step-reply.auto.memory ∙ c.hurry-here.auto.memory ∙ l.invariant.0,
+      c.put_line-at.auto.out ∙ c.hurry-here.auto.out ∙ l.invariant.1,
+      walked_then _ _ _ _ _ _ _ l.invariant.2 (walked_then _ _ _ _ _ _ _ h on),
     )
 
 pub returns-in-Ok-None : goal.returns-in-Ok-None
 unfolding ending
 returns-in-Ok-None c =
     let a = c.args in
-    let h = c.hurry-ahead.ensures in
-    let all = walked_then _ _ _ _ _ _ _ c.loop-event.invariant.2 h.walked in
-    let told : c.hurry-ahead.result.1 ≡ Ok None = search (rules, c.in-Ok-None.is, c.in-Ok-None.field-0-is) in
-    let stood = sym h.stands ∙ ap ahead_of told in
-    let tail = printed_piece c.put_tail.ensures (tail_room _ _ c.hurry-ahead.result.0 _ _ h.walked.fair) in
-    body_written a.s.now a.memory.now a.out.now _ a.start h.cursor _ _ _ File _ _ c.unpowered.ensures.told all stood tail
+    let h = c.hurry-here.ensures in
+    let here = c.hurry-here.result in
+    let all = walked_then _ _ _ _ _ _ _ c.loop-event.invariant.2 h in
+    let told : c.next.result ≡ Ok None = search (rules, c.in-Ok-None.is, c.in-Ok-None.field-0-is) in
+    let stood = sym c.next.ensures.told ∙ ap ahead_of told in
+    let tail = printed_piece c.put_tail.ensures (tail_room _ _ c.hurry-here.result _ _ h.fair) in
+    body_written a.s.now a.memory.now a.out.now _ a.start here.cursor here _ _ File _ _ c.unpowered.ensures.told all stood tail
 
 pub overflow_cast-refused : goal.overflow_cast-refused
 overflow_cast-refused c =
     let s = c.args.s.now in
-    let h = c.hurry-ahead.ensures in
+    let h = c.hurry-here.ensures in
+    let here = c.hurry-here.result in
     let end = end_of (Err c.in-Err.error) in
-    let stood = end_stood s h.cursor end (sym h.stands ∙ ap ahead_of c.in-Err.is) in
-    let there = given_within s h.cursor.place _ ((item_exactly s h.cursor.place _).0 stood) in
+    let stood = end_stood s here.cursor end (sym c.next.ensures.told ∙ ap ahead_of c.in-Err.is) in
+    let there = given_within s here.cursor.place _ ((item_exactly s here.cursor.place _).0 stood) in
     record { fits = in_reach s end c.requires.0 there }
 
 pub returns-in-Err : goal.returns-in-Err
 unfolding ending
 returns-in-Err c =
     let a = c.args in
-    let h = c.hurry-ahead.ensures in
-    let all = walked_then _ _ _ _ _ _ _ c.loop-event.invariant.2 h.walked in
-    let stood = sym h.stands ∙ ap ahead_of c.in-Err.is in
-    let tail = printed_piece c.put_tail-in-Err.ensures (tail_room _ _ c.hurry-ahead.result.0 _ _ h.walked.fair) in
-    body_written a.s.now a.memory.now a.out.now _ a.start h.cursor _ _ _ (end_of (Err c.in-Err.error)) _ _ c.unpowered.ensures.told all stood tail
+    let h = c.hurry-here.ensures in
+    let here = c.hurry-here.result in
+    let all = walked_then _ _ _ _ _ _ _ c.loop-event.invariant.2 h in
+    let stood = sym c.next.ensures.told ∙ ap ahead_of c.in-Err.is in
+    let tail = printed_piece c.put_tail-in-Err.ensures (tail_room _ _ c.hurry-here.result _ _ h.fair) in
+    body_written a.s.now a.memory.now a.out.now _ a.start here.cursor here _ _ (end_of (Err c.in-Err.error)) _ _ c.unpowered.ensures.told all stood tail

@@ -7,7 +7,7 @@ use Rattle.listing.proofs.whole.put_body.Given as goal
 
 abbrev pub invariant-loop-event : goal.invariant-loop-event
 invariant-loop-event l = (length l.memory ≡ length l.initial.memory) × (length l.out ≡ length l.initial.out)
-    × Walked l.s (record { place = 0 }) (draft l.initial.reached l.initial.memory l.initial.out) l.c (draft l.reached l.memory l.out)
+    × Walked l.s (record { place = 0 }) (draft l.initial.reached l.initial.memory l.initial.out) l.reached.cursor (draft l.reached l.memory l.out)
 
 abbrev pub decreases-loop-event : goal.decreases-loop-event
-decreases-loop-event l = length l.s - l.c.place
+decreases-loop-event l = length l.s - l.reached.cursor.place
