@@ -48,15 +48,16 @@ pub(crate) fn done(b: Board, memory: &mut [u32], e: Event) -> Reply
 {
     let value = register(b, e);
     let p = carry(plan_of(b.core, e), b.size, b.ring, depth(b), memory);
-    let mut after = board_before(b, p, e);
-    let request = request_after(e, b, after);
-    after.request = request;
+    let after = board_before(b, p, e);
     Reply {
         answer: Ok(Done {
             register: value,
             moved: p.moved,
             fate: p.fate,
         }),
-        board: after,
+        board: Board {
+            request: request_after(e, b, after),
+            ..after
+        },
     }
 }

@@ -15,7 +15,7 @@ use status::{active_size, burst_ready, closed, initialises, is_empty, is_high, i
 mod latched;
 
 // 01: "conditions 1 calibrated, 2 empty, 3 low quarter, 4 high quarter, 5 burst ready, 6 load ready, 7 not load ready": the one that is
-// selected.
+// selected. The arms are numbers, for a record handed in may have any selection.
 #[tactic(auto, unfolding(rules::specs::Interrupt::condition, rules::specs::Interrupt::conditions))]
 pub fn condition(b: Board) -> bool
     ensures { Told (condition (capped_board b)) result }

@@ -3,7 +3,7 @@
 
 ghost use Rattle.std.specs.Prelude.{◌≤◌, ◌<◌, ◌≡◌};
 ghost use Rattle.rules.specs.Numbered.{figures_of};
-ghost use Rattle.rules.specs.Rates.{reference_of, whole_reference, sample_rate, rates};
+ghost use Rattle.rules.specs.Rates.{whole_reference, sample_rate, rates};
 ghost use Rattle.rules.specs.Told.{Told};
 
 use rules::{Board, Clock, Frequencies, Refusal};
@@ -70,20 +70,17 @@ const REFERENCE: [u32; 512] = [
     31780821, 31812133, 31843444, 31874755, 31906066, 31937377, 31968688, 32000000,
 ];
 
-fn reference(nclk: u32) -> u32
-    requires { nclk ≤ 511 }
-    ensures { result ≡ reference_of nclk }
-{
-    REFERENCE[nclk as usize]
-}
-
 // 01: "(30,000,000 Hz if ALT = 0)"
 #[tactic(auto, unfolding(rules::specs::Rates::whole_reference))]
 fn whole_reference(k: Clock) -> u32
     requires { k.nclk ≤ 511 }
     ensures { result ≡ whole_reference k }
 {
-    if k.alt { reference(k.nclk) } else { 30000000 }
+    if k.alt {
+        REFERENCE[k.nclk as usize]
+    } else {
+        30000000
+    }
 }
 
 // 01: "The sample rate is the exact reference .. over the divisor, rounded down once.", so in 64 bits

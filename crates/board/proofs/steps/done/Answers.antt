@@ -34,7 +34,7 @@ returns c =
     c.board_before-after.ensures
     ∙ (λ i. record { core = p.core i; size = size_after a.b.size a.e; request = request_held a.b.request a.e; ring = p.ring i }) in
     let kept = ap (λ (x : Board). x.size) c.board_before-after.ensures in
-    let q = c.request_after-request.ensures.told ∙ request_told s a.e _ c.requires kept ∙ ap (request_after a.e a.b) b in
+    let q = c.request_after.ensures.told ∙ request_told s a.e _ c.requires kept ∙ ap (request_after a.e a.b) b in
     done_stepped s a.e _ _ c.requires
     (λ i. record { refusal = 0; register = c.register-value.ensures i; moved = p.moved i; fate = p.fate i })
     (λ i. with_request (q i) (b i))
