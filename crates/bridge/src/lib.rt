@@ -1,5 +1,5 @@
 // One event, and the rate question, on rows of numbers, for hosts in Rust and C.
-// A slice is a pointer and then a length on their side (hosts/).
+// A slice is a pointer and then a length on their side (hosts/), and what is answered a number, since C has no Result.
 #![tactic(auto)]
 
 ghost use Rattle.std.specs.Prelude.{◌≡◌, true, cond, eqb, length};

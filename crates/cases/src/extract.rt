@@ -1,8 +1,8 @@
 // A cut of a recording on the desk.
 use crate::desk::Desk;
-use crate::print;
+use crate::sheet::print_outcome;
 use std::io;
-use writer::cut;
+use writer::{Order, cut};
 
 // Of the first n numbers of three groups of four channels, the thousands of a number being its group, and the units its channel.
 pub(crate) fn extracted(rt: &impl Print, desk: &mut Desk) -> io::Result<()> {
@@ -12,16 +12,14 @@ pub(crate) fn extracted(rt: &impl Print, desk: &mut Desk) -> io::Result<()> {
     let numbers = desk.numbers;
     let n = (numbers[0] % 13) as usize;
     let mut output = [238u8; 40];
-    let w = cut(
-        &recording[..n],
-        numbers[1],
-        numbers[2] as usize,
-        numbers[3] as usize,
-        numbers[4],
-        &mut output,
-        numbers[5] as usize,
-    );
+    let order = Order {
+        recording: &recording[..n],
+        channels: numbers[1],
+        first: numbers[2] as usize,
+        last: numbers[3] as usize,
+        mask: numbers[4],
+    };
+    let outcome = cut(&order, &mut output, numbers[5] as usize);
     desk.output = output;
-    print::field(rt, w.refusal)?;
-    print::field(rt, (w.place % 41) as u32)
+    print_outcome(rt, outcome)
 }

@@ -4,6 +4,7 @@ use crate::print;
 use kinds::row_of;
 use run::Cursor;
 use std::io;
+use writer::WriteRefusal;
 
 // A row joins the slice; there is room for four.
 pub(crate) fn put(desk: &mut Desk) -> io::Result<()> {
@@ -25,10 +26,22 @@ pub(crate) fn written(rt: &impl Print, desk: &mut Desk) -> io::Result<()> {
     let mut output = [238u8; 40];
     let room = (desk.numbers[0] % 41) as usize;
     let place = desk.numbers[1] as usize;
-    let w = writer::write(desk.slice.as_slice(), &mut output[..room], place);
+    let outcome = writer::write(desk.slice.as_slice(), &mut output[..room], place);
     desk.output = output;
-    print::field(rt, w.refusal)?;
-    print::field(rt, (w.place % 41) as u32)
+    print_outcome(rt, outcome)
+}
+
+// By which number a session is refused, 0 where it was written; and the place after it, 0 where it was refused.
+pub(crate) fn print_outcome(
+    rt: &impl Print,
+    outcome: Result<usize, WriteRefusal>,
+) -> io::Result<()> {
+    let (refusal, end) = match outcome {
+        Ok(end) => (0, end),
+        Err(why) => (why as u32, 0),
+    };
+    print::field(rt, refusal)?;
+    print::field(rt, (end % 41) as u32)
 }
 
 // The row of the event at a place of the output, and the place after it; nothing where there is none.

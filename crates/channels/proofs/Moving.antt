@@ -1,5 +1,5 @@
 -- Which channels a clock gives values to, and how many values it moves, by the tests of the code.
-use Prim.Native.Nat.{ℕ, ◌+◌, ◌≤◌}
+use Prim.Native.Nat.{ℕ, ◌≤◌}
 use mathlib.Core.Path.{◌≡◌, refl, sym, ◌∙◌}
 use mathlib.Core.Logic.{◌≢◌}
 use mathlib.Core.Bool.{true, false}
@@ -8,7 +8,7 @@ use native.Mathlib.Omega.{arith}
 use borrow.Author.Tests.{ltb-false}
 use lib.ListN.{length}
 use Rattle.rules.specs.Bits.{active_from}
-use Rattle.rules.specs.Clocks.{next_channel, targets, cursor_after, idle, moving}
+use Rattle.rules.specs.Clocks.{next_channel, targets, idle, moving}
 use Rattle.rules.proofs.Choice.{cases, cond_true, cond_false, or_neither}
 use Rattle.rules.specs.declared.Core.{Core}
 use Rattle.laws.proofs.Lasting.{next_below}
@@ -24,11 +24,6 @@ targets_simultaneous c h = cond_true _ _ _ h
 pub targets_sequential : (c : Core) → c.control.simultaneous ≡ false → targets c ≡ next_channel c ∷ []
 unfolding targets
 targets_sequential c h = cond_false _ _ _ h
-
--- the channel is the one below the cursor after it
-pub cursor_sequential : (c : Core) → c.control.simultaneous ≡ false → cursor_after c ≡ next_channel c + 1
-unfolding cursor_after
-cursor_sequential c h = cond_false _ _ _ h
 
 -- the channels of the mask that is served are the targets
 pub served_targets : (c : Core) → c.outputs.cursor ≤ 20 → active_from 0 (served_by c) ≡ targets c

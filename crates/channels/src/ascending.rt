@@ -46,7 +46,7 @@ impl Iterator for ActiveChannels {
         if none {
             return None;
         }
-        let k = u32::trailing_zeros(self.waiting);
+        let k = self.waiting.trailing_zeros();
         self.waiting &= self.waiting - 1;
         Some(k as usize)
     }

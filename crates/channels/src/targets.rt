@@ -12,7 +12,7 @@ pub(crate) fn lowest_from(mask: u32, k: u32) -> Option<u32>
     requires { k ≤ 20 }
     ensures { MatchOption result (active_from k mask ≡ []) (λ at. (at ≡ head_or 20 (active_from k mask)) × (at < 20)) }
 {
-    let at = k + u32::trailing_zeros(mask >> k);
+    let at = k + (mask >> k).trailing_zeros();
     let fitted = at < 20;
     if fitted { Some(at) } else { None }
 }
@@ -41,6 +41,7 @@ pub(crate) fn served(c: Core) -> u32
 }
 
 // 01: "the cursor becomes that channel + 1"; "the cursor stays 0"
+#[tactic(auto, unfolding(rules::specs::Clocks::cursor_after))]
 pub(crate) fn cursor_after(c: Core) -> u32
     requires { c.outputs.cursor ≤ 20 }
     ensures { result ≡ cursor_after c }
@@ -58,7 +59,7 @@ pub(crate) fn group_size(c: Core) -> u32
     ensures { result ≡ length (targets c) }
 {
     if c.control.simultaneous {
-        u32::count_ones(c.outputs.mask)
+        c.outputs.mask.count_ones()
     } else {
         1
     }

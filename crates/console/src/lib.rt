@@ -13,7 +13,7 @@ use std::io::{Print, Read, Write};
 #[derive(Clone, Copy)]
 pub struct Program<'a> {
     pub rt: &'a HostRuntime,
-    pub name: &'a str,
+    pub name: &'a [u8],
 }
 
 // Reading or writing failed, and that was said.
@@ -54,7 +54,8 @@ fn words(text: &str) -> &str {
 impl Program<'_> {
     // A line on standard error. Where that cannot be written either, there is nobody to tell.
     fn say(&self, what: &str, error: io::Error) -> Said {
-        let _ = eprint!(self.rt; "{}: {what}: ", self.name);
+        let _ = self.rt.stderr().write_all(self.name);
+        let _ = eprint!(self.rt; ": {what}: ");
         let _ = match format!(in self.rt.alloc(); "{error}") {
             Ok(text) => eprintln!(self.rt; "{}", words(text.as_str())),
             Err(_) => eprintln!(self.rt; "{error}"),

@@ -3,7 +3,7 @@
 #![tactic(auto)]
 
 use console::read_all;
-use listing::{Listed, list};
+use listing::list;
 use std::io;
 
 mod checksum;
@@ -26,9 +26,9 @@ fn next_session<'a>(rt: &HostRuntime, room: &'a mut [u8; 1000]) -> io::Result<Op
 fn play(session: &[u8], memory: &mut [u32; 16384]) -> Option<u32> {
     let mut out = [0u8; 22160];
     match list(session, memory, &mut out) {
-        Listed::Text(n) => Some(checksum::of(&out[..n.min(out.len())])),
+        Ok(n) => Some(checksum::of(&out[..n.min(out.len())])),
         // never with the room above
-        Listed::Short(_) => None,
+        Err(_) => None,
     }
 }
 

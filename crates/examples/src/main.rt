@@ -8,7 +8,7 @@ use difference::first_difference;
 use document::blocks;
 use files::read;
 use hex_text::decode;
-use listing::{Listed, list};
+use listing::list;
 use std::io;
 
 mod difference;
@@ -29,9 +29,9 @@ fn play(rt: &impl Print, name: &str, session: &[u8], expected: &[u8]) -> io::Res
     let mut memory = [0u32; 16384];
     let mut out = room::<721056>();
     match list(session, &mut memory, &mut out) {
-        Listed::Text(n) => compare(rt, name, &out[..n.min(out.len())], expected),
+        Ok(n) => compare(rt, name, &out[..n.min(out.len())], expected),
         // never with the room above
-        Listed::Short(_) => println!(rt; "{name} is too long"),
+        Err(_) => println!(rt; "{name} is too long"),
     }
 }
 

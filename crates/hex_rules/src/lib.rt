@@ -2,7 +2,8 @@
 // specs/.
 #![tactic(auto)]
 
-// A character that says nothing, and whether what follows is in a comment; the two digits of a byte; or no hex text.
+// A character that says nothing, and whether what follows is in a comment; the two digits of a byte; or no hex text. The rules choose among
+// these three, and a fault is no less an answer than the others: so it is no Option or Result.
 #[derive(Clone, Copy)]
 pub enum Mark {
     Passed(bool),

@@ -45,6 +45,6 @@ fn work(program: &Program<'_>) -> Result<(), Said> {
 fn main(rt: HostRuntime) {
     let _ = work(&Program {
         rt: &rt,
-        name: "hexbytes",
+        name: b"hexbytes",
     });
 }

@@ -16,14 +16,14 @@ mod latched;
 
 // 01: "conditions 1 calibrated, 2 empty, 3 low quarter, 4 high quarter, 5 burst ready, 6 load ready, 7 not load ready": the one that is
 // selected.
+#[tactic(auto, unfolding(rules::specs::Interrupt::condition, rules::specs::Interrupt::conditions))]
 pub fn condition(b: Board) -> bool
     ensures { Told (condition (capped_board b)) result }
 {
     let c = b.core;
     let n = b.ring.count;
     let size = active_size(b.size);
-    let s = c.control.selection;
-    match s {
+    match c.control.selection {
         1 => c.calibration.calibrated,
         2 => is_empty(n),
         3 => is_low(size, n),
@@ -36,6 +36,7 @@ pub fn condition(b: Board) -> bool
 }
 
 // 01: BOR "store D0 to D5": D0 to D3 are the size code; initialise sets it to 15.
+#[tactic(auto, unfolding(rules::specs::Size::size_after))]
 pub fn size_after(s: Size, e: Event) -> Size
     ensures { Told (size_after s e) result }
 {
@@ -45,36 +46,35 @@ pub fn size_after(s: Size, e: Event) -> Size
             code: 15,
         },
         Event::Write { offset, value } => Size {
-            fitted: s.fitted,
             code: code_of(s, offset, value),
+            ..s
         },
-        Event::Read { offset: _ } => s,
-        Event::Signal(_) => s,
+        _ => s,
     }
 }
 
 // 01 of a BCR write: "D11 = 0 clears the request, 1 leaves it"
+#[tactic(auto, unfolding(rules::specs::Interrupt::request_held))]
 pub fn request_held(q: bool, e: Event) -> bool
     ensures { Told (request_held q e) result }
 {
     match e {
-        Event::PowerUp(_) => q,
-        Event::Write { offset, value } => q & (!(offset == 0) | (value / 2048 % 2 == 1)),
-        Event::Read { offset: _ } => q,
-        Event::Signal(_) => q,
+        Event::Write { offset, value } => q & ((offset != 0x00) | (value / 2048 % 2 == 1)),
+        _ => q,
     }
 }
 
 // The request after an event, from the board before it and the one after all but the edge. 01: "If an event leaves the selection
 // unchanged, false to true sets the request after all else; true to false clears it .. Initialise just sets it."
+#[tactic(auto, unfolding(rules::specs::Interrupt::request_after))]
 pub fn request_after(e: Event, b: Board, a: Board) -> bool
     ensures { Told (request_after e (capped_board b) (capped_board a)) result }
 {
     if initialises(e) {
-        return true;
+        true
+    } else if b.core.control.selection == a.core.control.selection {
+        edge(condition(b), condition(a), a.request)
+    } else {
+        a.request
     }
-    if b.core.control.selection == a.core.control.selection {
-        return edge(condition(b), condition(a), a.request);
-    }
-    a.request
 }

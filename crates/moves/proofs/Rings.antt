@@ -1,9 +1,7 @@
 -- The ring of the stored values: its places mod depth, and what it holds after a value left.
-use Prim.Native.Nat.{ℕ, zero, suc, ◌+◌, ◌-◌, ◌%◌, ◌≤◌, ◌<◌}
-use mathlib.Core.Path.{◌≡◌, sym, ◌∙◌}
+use Prim.Native.Nat.{ℕ, zero, suc, ◌≤◌, ◌<◌}
 use mathlib.Core.Bool.{Bool, true, false, cond}
 use mathlib.Core.List.{List, ◌++◌}
-use native.Mathlib.Nat.{mod-eq_of_lt, mod-eq-sub-mod}
 use native.Mathlib.Omega.{arith}
 use lib.ListN.{take, drop}
 use Rattle.rules.specs.Clocks.{leave, recirculate}
@@ -17,10 +15,6 @@ use Rattle.moves.specs.Deal.{place_passed}
 
 pub ready_good : {d : ℕ} {r : Ring} {m : List ℕ} → Ready d r m → Good d (ring_place r m)
 ready_good h = record { first_lt = h.first; count_le = h.count; enough = h.enough }
-
--- in the second lap, a lap less is the place
-pub lap_less : (x d : ℕ) → d ≤ x → x < d + d → x - d ≡ x % d
-lap_less x d h l = sym (mod-eq-sub-mod h ∙ mod-eq_of_lt (omega arith))
 
 -- ---- One value leaves, and is stored again or not
 

@@ -1,5 +1,6 @@
 // What hosts in C and Rust call, under the names of hosts/c/nergutsai.h: each function calls the one of its library that has its name
 // and its promise. A slice is a pointer and then a length on their side, and a reference to a number or an array a pointer (hosts/).
+// What is answered is a number, and a second answer is written through a reference: C has no Result.
 #![tactic(auto)]
 
 ghost use Rattle.bridge.specs.Promises.{Called, RateCalled};

@@ -1,4 +1,3 @@
 -- The laws, and what they rest on; each file opens with what it shows.
-pub mod Zeros
 pub mod Acts
 pub mod Laws

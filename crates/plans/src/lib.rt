@@ -10,6 +10,7 @@ use crate::signals::on_signal;
 use crate::writes::{initial, on_write};
 use rules::{Core, Event, Options, Settings};
 
+mod bits;
 mod signals;
 mod states;
 mod writes;
@@ -52,6 +53,7 @@ impl Plan {
 }
 
 // The plan of an event that is not refused.
+#[tactic(auto, unfolding(crate::specs::Plan::planned))]
 pub fn plan_of(c: Core, e: Event) -> Plan
     ensures { Told (planned c e) result }
 {

@@ -4,14 +4,16 @@ ghost use Rattle.plans.specs.Parts.{core_of, buffer_act};
 ghost use Rattle.plans.specs.Plan.{write_plan};
 ghost use Rattle.rules.specs.Writes.{initial, control_of, burst_of, cursor_of, calibration_of, write_control, write_mask, write_rate, write_adjust, mode_of, lost_of, load_kept, load_asked, buffer_of};
 
+use crate::bits::bit;
 use crate::signals::clocks_if;
 use crate::states::clock_accepted;
 use crate::{Act, Plan};
 use record::mask_limit;
-use rules::{Burst, Calibration, Clock, Control, Core, Event, Load, Lost, Mode, Options, Outputs};
-use status::initialises;
+use rules::{Burst, Calibration, Clock, Control, Core, Load, Lost, Mode, Options, Outputs};
+use status::write_initialises;
 
 // 01: "Initialise: BCR 00000810h, mask of all fitted channels, divisor 0064h, .." What is not written here is zero.
+#[tactic(auto, unfolding(rules::specs::Writes::initial))]
 pub(crate) fn initial(o: Options) -> Core
     ensures { result ≡ initial o }
 {
@@ -40,12 +42,12 @@ pub(crate) fn control_of(v: u32) -> Control
     ensures { result ≡ control_of v }
 {
     Control {
-        bursts: v / 1 % 2 == 1,
-        ground_sense: v / 8 % 2 == 1,
-        binary: v / 16 % 2 == 1,
-        differential: v / 32 % 2 == 1,
-        barred: v / 64 % 2 == 1,
-        simultaneous: v / 128 % 2 == 1,
+        bursts: bit(v, 0),
+        ground_sense: bit(v, 3),
+        binary: bit(v, 4),
+        differential: bit(v, 5),
+        barred: bit(v, 6),
+        simultaneous: bit(v, 7),
         selection: v / 256 % 8,
     }
 }
@@ -55,8 +57,8 @@ pub(crate) fn control_of(v: u32) -> Control
 pub(crate) fn burst_of(v: u32, x: Burst) -> Burst
     ensures { result ≡ burst_of v x }
 {
-    let bursts = v / 1 % 2 == 1;
-    let starts = (v / 4 % 2 == 1) & !x.running;
+    let bursts = bit(v, 0);
+    let starts = bit(v, 2) & !x.running;
     if !bursts {
         Burst::default()
     } else if starts {
@@ -82,7 +84,7 @@ pub(crate) fn cursor_of(was: bool, is: bool, n: u32) -> u32
 pub(crate) fn calibration_of(v: u32, x: Calibration) -> Calibration
     ensures { result ≡ calibration_of v x }
 {
-    let starts = v / 8192 % 2 == 1;
+    let starts = bit(v, 13);
     if starts {
         Calibration {
             running: true,
@@ -152,7 +154,7 @@ pub(crate) fn write_adjust(c: Core, v: u32) -> Core
     Core {
         clock: Clock {
             nclk,
-            alt: v / 512 % 2 == 1,
+            alt: bit(v, 9),
             settling: c.clock.settling | (c.mode.external & (nclk != c.clock.nclk)),
             ..c.clock
         },
@@ -164,9 +166,9 @@ pub(crate) fn mode_of(v: u32) -> Mode
     ensures { result ≡ mode_of v }
 {
     Mode {
-        external: v / 16 % 2 == 1,
-        enabled: v / 32 % 2 == 1,
-        circular: v / 256 % 2 == 1,
+        external: bit(v, 4),
+        enabled: bit(v, 5),
+        circular: bit(v, 8),
     }
 }
 
@@ -175,8 +177,8 @@ pub(crate) fn lost_of(v: u32, x: Lost) -> Lost
     ensures { result ≡ lost_of v x }
 {
     Lost {
-        full: x.full & (v / 65536 % 2 == 1),
-        closed: x.closed & (v / 131072 % 2 == 1),
+        full: x.full & bit(v, 16),
+        closed: x.closed & bit(v, 17),
     }
 }
 
@@ -185,7 +187,7 @@ pub(crate) fn lost_of(v: u32, x: Lost) -> Lost
 pub(crate) fn load_kept(v: u32, x: Load) -> Load
     ensures { result ≡ load_kept v x }
 {
-    let kept = (v / 256 % 2 == 1) & !(v / 2048 % 2 == 1);
+    let kept = bit(v, 8) & !bit(v, 11);
     if kept { x } else { Load::default() }
 }
 
@@ -194,10 +196,10 @@ pub(crate) fn load_kept(v: u32, x: Load) -> Load
 pub(crate) fn load_asked(v: u32, x: Load) -> Load
     ensures { result ≡ load_asked v x }
 {
-    let asked = (v / 256 % 2 == 1) & !x.opened;
+    let asked = bit(v, 8) & !x.opened;
     if asked {
         Load {
-            pending: v / 512 % 2 == 1,
+            pending: bit(v, 9),
             ..x
         }
     } else {
@@ -206,10 +208,11 @@ pub(crate) fn load_asked(v: u32, x: Load) -> Load
 }
 
 // The core of a BOR write when its software clock is tried.
+#[tactic(auto, unfolding(rules::specs::Writes::buffer_of))]
 pub(crate) fn buffer_of(v: u32, c: Core) -> Core
     ensures { result ≡ buffer_of v c }
 {
-    let clears = v / 2048 % 2 == 1;
+    let clears = bit(v, 11);
     let burst = if clears { Burst::default() } else { c.burst };
     let cursor = if clears { 0 } else { c.outputs.cursor };
     Core {
@@ -225,19 +228,16 @@ pub(crate) fn buffer_of(v: u32, c: Core) -> Core
     }
 }
 
-// A write that changes the core alone. The last arm of a `match` on the offset would not know which offsets it is none of.
+// A write that changes the core alone.
 #[tactic(auto, unfolding(crate::specs::Parts::core_of))]
 pub(crate) fn write_core(c: Core, o: u32, v: u32) -> Core
     ensures { result ≡ core_of c o v }
 {
-    if o == 0x00 {
-        write_control(c, v)
-    } else if o == 0x04 {
-        write_mask(c, v)
-    } else if o == 0x08 {
-        write_rate(c, v)
-    } else {
-        write_adjust(c, v)
+    match o {
+        0x00 => write_control(c, v),
+        0x04 => write_mask(c, v),
+        0x08 => write_rate(c, v),
+        _ => write_adjust(c, v),
     }
 }
 
@@ -245,35 +245,32 @@ pub(crate) fn write_core(c: Core, o: u32, v: u32) -> Core
 pub(crate) fn buffer_act(v: u32, accepted: bool) -> Act
     ensures { result ≡ buffer_act v accepted }
 {
-    let empties = v / 2048 % 2 == 1;
+    let empties = bit(v, 11);
     if empties {
         Act::Empties
     } else {
-        clocks_if((v / 128 % 2 == 1) & accepted)
+        clocks_if(bit(v, 7) & accepted)
     }
 }
 
 // A write to any offset that takes one.
+#[tactic(auto, unfolding(crate::specs::Plan::write_plan, crate::specs::Plan::buffer_plan, rules::specs::Size::initialises))]
 pub(crate) fn on_write(c: Core, o: u32, v: u32) -> Plan
     ensures { result ≡ write_plan c o v }
 {
-    if o == 0x0C {
-        let core = buffer_of(v, c);
-        Plan {
-            core,
-            act: buffer_act(v, clock_accepted(core)),
+    match o {
+        0x0C => {
+            let core = buffer_of(v, c);
+            Plan {
+                core,
+                act: buffer_act(v, clock_accepted(core)),
+            }
         }
-    } else if o == 0x18 {
-        Plan {
+        0x18 => Plan {
             core: c,
             act: Act::Loads(v),
-        }
-    } else if initialises(Event::Write {
-        offset: o,
-        value: v,
-    }) {
-        Plan::initial(c.options)
-    } else {
-        Plan::core_alone(write_core(c, o, v))
+        },
+        _ if write_initialises(o, v) => Plan::initial(c.options),
+        _ => Plan::core_alone(write_core(c, o, v)),
     }
 }

@@ -78,26 +78,26 @@ fn reference(nclk: u32) -> u32
 }
 
 // 01: "(30,000,000 Hz if ALT = 0)"
+#[tactic(auto, unfolding(rules::specs::Rates::whole_reference))]
 fn whole_reference(k: Clock) -> u32
     requires { k.nclk ≤ 511 }
     ensures { result ≡ whole_reference k }
 {
-    if k.alt {
-        return reference(k.nclk);
-    }
-    30000000
+    if k.alt { reference(k.nclk) } else { 30000000 }
 }
 
 // 01: "The sample rate is the exact reference .. over the divisor, rounded down once.", so in 64 bits
+#[tactic(auto, unfolding(rules::specs::Rates::sample_rate))]
 fn sample_rate(k: Clock) -> u32
     requires { (k.nclk ≤ 511) × (0 < k.divisor) }
     ensures { result ≡ sample_rate k }
 {
     if k.alt {
         let hertz = 16000000 * (511 + k.nclk as u64);
-        return (hertz / (511 * k.divisor as u64)) as u32;
+        (hertz / (511 * k.divisor as u64)) as u32
+    } else {
+        30000000 / k.divisor
     }
-    30000000 / k.divisor
 }
 
 // The rate figures of a board record, or the refusal 3, 9 or 8.

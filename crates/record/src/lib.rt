@@ -1,5 +1,6 @@
 // A board record by itself: which settings are in range, the unpowered record, its depth, and the mask of its kit.
-// Every call takes every input, and tells what a rule says (`Told` of rules/specs/Told.antt).
+// Every call takes every input, and tells what a rule says (`Told` of rules/specs/Told.antt). Here and above these are functions, and no
+// methods of a record or a core: the crate of the types, `rules`, is what must be believed and holds no function.
 #![tactic(auto)]
 
 ghost use Rattle.std.specs.Prelude.{◌^◌, min};

@@ -88,7 +88,7 @@ pub(crate) fn judge_write(c: Core, o: u32) -> Result<(), Refusal>
     if !is_offset(o) {
         return Err(Refusal::NoRegister);
     }
-    if (o == 0x10) | (o == 0x14) {
+    if matches!(o, 0x10 | 0x14) {
         return Err(Refusal::ReadOnly);
     }
     if c.calibration.running {

@@ -3,16 +3,16 @@
 #![tactic(auto)]
 
 use console::{Program, Said, room};
-use listing::Listed;
+use listing::list;
 
 // There is as much room as the listing of the longest file asks for, and in the memory for the buffer of fitted code 11.
 fn show(program: &Program<'_>, file: &[u8]) -> Result<(), Said> {
     let mut memory = [0u32; 16384];
     let mut out = room::<1441952>();
-    match listing::list(file, &mut memory, &mut out) {
-        Listed::Text(n) => program.write_output(&out[..n.min(out.len())]),
+    match list(file, &mut memory, &mut out) {
+        Ok(n) => program.write_output(&out[..n.min(out.len())]),
         // never with the room above
-        Listed::Short(_) => Ok(()),
+        Err(_) => Ok(()),
     }
 }
 
@@ -26,6 +26,6 @@ fn work(program: &Program<'_>) -> Result<(), Said> {
 fn main(rt: HostRuntime) {
     let _ = work(&Program {
         rt: &rt,
-        name: "rehearse",
+        name: b"rehearse",
     });
 }

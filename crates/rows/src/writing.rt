@@ -6,6 +6,7 @@ use crate::places::{LEVEL_COUNT, LEVELS, ROW_LONG};
 use rules::Board;
 use std::array;
 
+// All of a row but its levels; a bool is 0 or 1.
 fn fields_of(b: Board) -> [u32; LEVELS]
     ensures { result ≡ fields_row b }
 {

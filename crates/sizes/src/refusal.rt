@@ -5,6 +5,7 @@ ghost use Rattle.sizes.specs.declared.refusal.SizeRefusal.TheVariants.{File};
 
 use file_rules::{Fault, FileError};
 
+// Not one type with that of a table of volts: each has a refusal that the other never gives.
 #[derive(Clone, Copy, Debug, PartialEq, Eq)]
 pub enum SizeRefusal {
     // 02: "10 to 13 first"

@@ -10,45 +10,35 @@ use rules::{Core, Options, Ring, Size};
 pub(crate) fn only_if(a: bool, b: bool) -> bool
     ensures { result ≡ only_if a b }
 {
-    if a {
-        return b;
-    }
-    true
+    !a | b
 }
 
-// The nesting and the last `true`, here and below, are those of `all` over the rules' list: so the two compute alike.
+// Each clause is a value, and `&` joins them: nearly all of a sound record's hold, so that to skip the later ones would only cost tests.
 pub(crate) fn options_in_range(o: Options) -> bool
     ensures { result ≡ options_in_range o }
 {
     code_in_range(o.range)
-        & (code_in_range(o.filter)
-            & (code_in_range(o.kit) & (firmware_in_range(o.firmware) & true)))
+        & code_in_range(o.filter)
+        & code_in_range(o.kit)
+        & firmware_in_range(o.firmware)
 }
 
 // 01's clauses of soundness that speak of the core.
 pub(crate) fn sound_core(c: Core) -> bool
     ensures { result ≡ sound_core c }
 {
-    let zeroed = only_if(c.control.simultaneous, c.outputs.cursor == 0);
-    let circles = only_if(c.load.pending | c.load.opened, c.mode.circular);
-    let enabled = only_if(c.burst.running, c.control.bursts);
-    let started = only_if(c.burst.software, c.burst.running);
-    let fits = c.outputs.mask < mask_limit(c.options.kit);
-    let options = c.options;
     c.powered
-        & (options_in_range(options)
-            & (fits
-                & ((c.outputs.cursor <= 20)
-                    & (zeroed
-                        & ((c.control.selection <= 7)
-                            & ((c.clock.nclk <= 511)
-                                & (circles
-                                    & (!(c.load.pending & c.load.opened)
-                                        & (enabled
-                                            & (started
-                                                & (!(c.calibration.running
-                                                    & c.calibration.calibrated)
-                                                    & true)))))))))))
+        & options_in_range(c.options)
+        & (c.outputs.mask < mask_limit(c.options.kit))
+        & (c.outputs.cursor <= 20)
+        & only_if(c.control.simultaneous, c.outputs.cursor == 0)
+        & (c.control.selection <= 7)
+        & (c.clock.nclk <= 511)
+        & only_if(c.load.pending | c.load.opened, c.mode.circular)
+        & !(c.load.pending & c.load.opened)
+        & only_if(c.burst.running, c.control.bursts)
+        & only_if(c.burst.software, c.burst.running)
+        & !(c.calibration.running & c.calibration.calibrated)
 }
 
 // 01's clauses of soundness that speak of sizes and places, d being the depth where the fitted code is in range.
@@ -56,5 +46,5 @@ pub(crate) fn sound_ring(s: Size, r: Ring, d: u32) -> bool
     requires { d ≡ depth_of (min s.fitted 15) }
     ensures { result ≡ sound_ring s r }
 {
-    fitted_in_range(s.fitted) & ((s.code <= 15) & ((r.first < d) & ((r.count <= d) & true)))
+    fitted_in_range(s.fitted) & (s.code <= 15) & (r.first < d) & (r.count <= d)
 }

@@ -14,8 +14,5 @@ mod clauses;
 pub fn is_sound(b: Board) -> bool
     ensures { Told (sound b) result }
 {
-    let core = b.core;
-    let size = b.size;
-    let ring = b.ring;
-    sound_core(core) & sound_ring(size, ring, depth(b))
+    sound_core(b.core) & sound_ring(b.size, b.ring, depth(b))
 }

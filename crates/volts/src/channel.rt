@@ -15,7 +15,7 @@ pub(crate) fn at_once(v: f32) -> Extremes
     }
 }
 
-// The tests stand here, since `min` and `max` of f32 may answer either of two zeros.
+// Two tests and not `min` and `max` of f32, which may answer either of two zeros, and the other one where one is no number.
 pub(crate) fn entered(x: Extremes, v: f32) -> Extremes
     ensures { result ≡ entered x v }
 {

@@ -2,7 +2,7 @@
 ghost use Rattle.std.specs.Prelude.{◌<◌, ◌≡◌};
 ghost use Rattle.volt_rules.specs.Volts.{factor, share, volts_of};
 
-// 02: "5, 10 or 20 for range 0, 1, 2"
+// 02: "5, 10 or 20 for range 0, 1, 2". The range is a number as in the board's record, which may be damaged.
 #[tactic(auto, unfolding(volt_rules::specs::Volts::factor))]
 fn factor_of(range: u32) -> u32
     ensures { result ≡ factor range }

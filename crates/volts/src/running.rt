@@ -26,10 +26,9 @@ impl Observed {
         ensures { Observes self.old memory.old e self.new memory.new }
     {
         let r = step(self.board, memory, e);
-        let board = r.board;
+        self.board = r.board;
         let fresh = starts_afresh(e, r.answer);
-        self.channels = watch(self.channels, fresh, &board);
-        self.board = board;
+        watch(&mut self.channels, fresh, &r.board);
     }
 }
 
@@ -47,15 +46,19 @@ fn starts_afresh(e: Event, answer: Result<Done, Refusal>) -> bool
 
 // 02: "Levels right after an accepted power-up and after each later event count": b is the record after an event. Before the first
 // accepted power-up nothing counts.
-fn watch(channels: Option<[Extremes; 20]>, fresh: bool, b: &Board) -> Option<[Extremes; 20]>
-    ensures { Watched fresh b.now channels result }
+fn watch(channels: &mut Option<[Extremes; 20]>, fresh: bool, b: &Board)
+    ensures { Watched fresh b.now channels.old channels.new }
 {
     let range = b.core.options.range;
     let levels = b.core.outputs.levels;
     if fresh {
-        return Some(start_all(range, levels));
+        *channels = Some(start_all(range, levels));
+        return;
     }
-    Some(enter_all(channels?, range, levels))
+    let Some(x) = channels else {
+        return;
+    };
+    *x = enter_all(*x, range, levels);
 }
 
 fn start_all(range: u32, levels: [u16; 20]) -> [Extremes; 20]

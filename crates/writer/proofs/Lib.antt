@@ -1,12 +1,13 @@
 -- What the functions' proofs cite; each file opens with what it shows.
-pub mod RowsOn
+pub mod Overwriting
 pub mod GoodRows
-pub mod Widths
+pub mod Rows
 pub mod NoBytes
-pub mod Loops
-pub mod Refusing
-pub mod Orders
-pub mod Marks
 pub mod Grouping
+pub mod Marks
+pub mod GoodOrders
 pub mod Cutting
+pub mod Orders
+pub mod Outcomes
+pub mod Calls
 pub mod Unique

@@ -2,7 +2,7 @@
 use Rattle.std.specs.Prelude.{ℕ, ◌≡◌, List, length}
 use Rattle.file_rules.specs.Writing.{write_refusal, end_place, output_after}
 use Rattle.cut_rules.specs.Cut.{Cut, cut_refusal, cut_end, cut_output}
-use Rattle.writer.specs.declared.Written.{Written}
+use Rattle.writer.specs.Written.{Written}
 
 -- write(xs, out, place) = r, and out is out' afterwards; nergutsai_write(xs, out, place, end) answers r's refusal, and leaves its place in `end`
 pub record Writes (xs out : List ℕ) (place : ℕ) (r : Written) (out' : List ℕ) : Type 0 where

@@ -1,86 +1,47 @@
-// What is wrong with a call, before anything is written.
-ghost use Rattle.std.specs.Prelude.{◌+◌, ◌*◌, ◌/◌, ◌%◌, ◌≤◌, ◌≡◌, ltb, length};
-ghost use Rattle.file_rules.specs.Writing.{write_refusal};
-ghost use Rattle.writer.specs.RowsFrom.{Judges, JudgesRow};
+// What is wrong with rows, before anything is written.
+ghost use Rattle.std.specs.Prelude.{◌*◌, ◌^◌, ◌<◌, ◌≡◌, length, drop, MatchResult};
+ghost use Rattle.kinds.specs.Numbers.{kind_number};
+ghost use Rattle.file_rules.specs.Writing.{widths, fit_widths, row_refusal, first_bad};
+ghost use Rattle.writer.specs.Judged.{GoodRow, GoodRows};
+ghost use Rattle.writer.specs.Written.{refusal_number};
 
-use crate::rows::{row_at, row_refusal};
-use kinds::length_of;
+use crate::refusal::WriteRefusal;
+use kinds::Kind;
 
-// What is found of rows: by which number the first bad one is refused, 0 where none is; and then how many bytes their fields have. A row
-// has six numbers, and its fields six bytes at most, so that many bytes can always be counted.
-#[derive(Clone, Copy)]
-pub(crate) struct Finding {
-    pub(crate) refusal: u32,
-    pub(crate) fields: usize,
-}
-
-// One row.
-fn judge_row(rows: &[u32], at: usize) -> Finding
-    requires { at + 6 ≤ length rows.now }
-    ensures { JudgesRow rows.now at result.refusal result.fields }
+// 02: "a field too large for its bytes or not 0 where the kind has none"; 01: "power-up (d, range, filter, kit, firmware in two bytes)",
+// "write (offset, value in four)", "read (offset)". The value of a write takes every number.
+#[tactic(auto, unfolding(file_rules::specs::Writing::widths, file_rules::specs::Writing::fit_widths))]
+fn fits_widths(kind: Kind, row: &[u32; 6]) -> bool
+    ensures { result ≡ fit_widths (drop 1 row.now) (widths (kind_number kind)) }
 {
-    let row = row_at(rows, at);
-    let n = row_refusal(row);
-    if n != 0 {
-        return Finding {
-            refusal: n,
-            fields: 0,
-        };
-    }
-    Finding {
-        refusal: 0,
-        fields: (length_of(row[0]) - 1) as usize,
+    let [_, a, b, c, d, e] = *row;
+    match kind {
+        Kind::PowerUp => a < 256 && b < 256 && c < 256 && d < 256 && e < 65536,
+        Kind::Write => a < 256 && c == 0 && d == 0 && e == 0,
+        Kind::Read => a < 256 && b == 0 && c == 0 && d == 0 && e == 0,
+        Kind::Signal(_) => a == 0 && b == 0 && c == 0 && d == 0 && e == 0,
     }
 }
 
-// 02: "the first bad event decides"
-fn judge(rows: &[u32]) -> Finding
-    requires { length rows.now % 6 ≡ 0 }
-    ensures { Judges rows.now result.refusal result.fields }
+// 02: "13 an unknown kind, 30 a field ..", in this order. How many bytes the fields of a good row have.
+fn check_row(row: &[u32; 6]) -> Result<usize, WriteRefusal>
+    ensures { MatchResult result (GoodRow row.now) (λ why. row_refusal row.now ≡ refusal_number why) }
 {
-    let mut at: usize = 0;
+    let kind = Kind::try_from(row[0])?;
+    if !fits_widths(kind, row) {
+        return Err(WriteRefusal::FieldTooLarge);
+    }
+    Ok((kind.length() - 1) as usize)
+}
+
+// 02: "the first bad event decides". How many bytes the fields of all rows have, where all are good.
+pub(crate) fn check_rows(rows: &[[u32; 6]]) -> Result<usize, WriteRefusal>
+    requires { 6 * length rows.now < 2 ^ 64 }
+    ensures { MatchResult result (GoodRows rows.now) (λ why. first_bad rows.now ≡ refusal_number why) }
+{
     let mut fields: usize = 0;
-    while at < rows.len() {
-        let j = judge_row(rows, at);
-        if j.refusal != 0 {
-            return j;
-        }
-        fields += j.fields;
-        at += 6;
+    for row in rows {
+        fields += check_row(row)?;
     }
-    Finding {
-        refusal: 0,
-        fields: fields,
-    }
-}
-
-// Whether there is no room for n records whose fields have so many bytes: for the version byte, three bytes a record, and the fields. The
-// sum itself could be too large for a number.
-fn is_short(room: usize, n: usize, fields: usize) -> bool
-    ensures { result ≡ ltb room (1 + 3 * n + fields) }
-{
-    if room <= fields {
-        return true;
-    }
-    (room - fields - 1) / 3 < n
-}
-
-// 02: "32 a slice not of whole events, first; 13 .., 30 .., 20 a place past the output's end, 21 when the whole session doesn't fit"
-pub(crate) fn refusal_of(rows: &[u32], length: usize, place: usize) -> u32
-    ensures { result ≡ write_refusal rows.now length place }
-{
-    if rows.len() % 6 != 0 {
-        return 32;
-    }
-    let j = judge(rows);
-    if j.refusal != 0 {
-        return j.refusal;
-    }
-    if length < place {
-        return 20;
-    }
-    if is_short(length - place, rows.len() / 6, j.fields) {
-        return 21;
-    }
-    0
+    Ok(fields)
 }

@@ -1,72 +1,75 @@
-// What is wrong with the order of a cut, before anything is written.
-ghost use Rattle.std.specs.Prelude.{ℕ, ◌+◌, ◌*◌, ◌-◌, ◌^◌, ◌≤◌, ◌<◌, ◌≡◌, ltb};
+// The order of a cut, and what is wrong with it, before anything is written.
+ghost use Rattle.std.specs.Prelude.{◌≤◌, ◌≡◌};
 ghost use Rattle.cut_rules.specs.Cut.{is_grouped, is_choice, cut_refusal};
-ghost use Rattle.writer.specs.Cutting.{values_of};
-ghost use Rattle.writer.specs.Promises.{cut_of};
+ghost use Rattle.writer.specs.Cutting.{values_of, groups_of};
+ghost use Rattle.writer.specs.Orders.{order_of, GoodOrder};
+ghost use Rattle.writer.specs.Written.{outcome_number};
 
-// 02: "channels in a group .. 1 to 20", and the length a whole number of groups. Of no channels no remainder is taken.
-fn is_grouped(recording: &[u16], channels: u32) -> bool
-    ensures { (first last mask : ℕ) → result ≡ is_grouped (cut_of recording.now channels first last mask) }
-{
-    if channels == 0 {
-        return false;
-    }
-    (channels <= 20) & (recording.len() % channels as usize == 0)
+use crate::refusal::WriteRefusal;
+use crate::room::check_room;
+
+// 02: "Given a recording as a lent slice of 16-bit numbers, group after group, with the number of channels in a group, cut groups a to b
+// (from 0, both taken) and a chosen subset of channels". Bit k of the mask is channel k of a group.
+#[derive(Clone, Copy)]
+pub struct Order<'a> {
+    pub recording: &'a [u16],
+    pub channels: u32,
+    pub first: usize,
+    pub last: usize,
+    pub mask: u32,
 }
 
-// 02: "empty choice, a channel outside the group, or groups out of range or reversed": none of these.
-fn is_choice(recording: &[u16], channels: u32, first: usize, last: usize, mask: u32) -> bool
-    requires { (1 ≤ channels) × (channels ≤ 20) }
-    ensures { result ≡ is_choice (cut_of recording.now channels first last mask) }
-{
-    (mask != 0)
-        & ((mask < 1 << channels)
-            & ((first <= last) & (last < recording.len() / channels as usize)))
-}
+impl Order<'_> {
+    // 02: "channels in a group .. 1 to 20", and the length a whole number of groups.
+    #[tactic(auto, unfolding(cut_rules::specs::Cut::is_grouped, rules::specs::Bits::all))]
+    fn is_grouped(&self) -> bool
+        ensures { result ≡ is_grouped (order_of self.now) }
+    {
+        self.channels != 0
+            && self.channels <= 20
+            && self.recording.len() % self.channels as usize == 0
+    }
 
-// How many numbers are chosen: so many groups, "both taken", with so many channels.
-pub(crate) fn values_of(first: usize, last: usize, mask: u32) -> usize
-    requires { (first ≤ last) × (last - first + 1 < 2 ^ 64) × (values_of first last mask < 2 ^ 64) }
-    ensures { result ≡ values_of first last mask }
-{
-    (last - first + 1) * u32::count_ones(mask) as usize
-}
+    // 02: "empty choice, a channel outside the group, or groups out of range or reversed": none of these.
+    #[tactic(auto, unfolding(cut_rules::specs::Cut::is_choice, rules::specs::Bits::all))]
+    fn is_choice(&self) -> bool
+        requires { (1 ≤ self.now.channels) × (self.now.channels ≤ 20) }
+        ensures { result ≡ is_choice (order_of self.now) }
+    {
+        self.mask != 0
+            && self.mask < 1 << self.channels
+            && self.first <= self.last
+            && self.last < self.recording.len() / self.channels as usize
+    }
 
-// Whether there is no room for the version byte, and eight bytes for the record of the mask and of each value. The sum itself could be
-// too large for a number.
-fn lacks_room(room: usize, values: usize) -> bool
-    ensures { result ≡ ltb room (1 + 8 * (1 + values)) }
-{
-    if room < 9 {
-        return true;
+    // How many numbers are chosen: so many groups, "both taken", with so many channels.
+    pub(crate) fn values(&self) -> usize
+        requires { GoodOrder (order_of self.now) }
+        ensures { result ≡ values_of self.now.first self.now.last self.now.mask }
+    {
+        (self.last - self.first + 1) * u32::count_ones(self.mask) as usize
     }
-    (room - 9) / 8 < values
-}
 
-// 02: "Refusals, in order: 22 channels in a group not 1 to 20, or length no whole number of groups; 23 empty choice, a channel outside the
-// group, or groups out of range or reversed; then 20 and 21"
-pub(crate) fn cut_refusal(
-    recording: &[u16],
-    channels: u32,
-    first: usize,
-    last: usize,
-    mask: u32,
-    length: usize,
-    place: usize,
-) -> u32
-    ensures { result ≡ cut_refusal (cut_of recording.now channels first last mask) length place }
-{
-    if !is_grouped(recording, channels) {
-        return 22;
+    // The numbers of the chosen groups.
+    pub(crate) fn groups(&self) -> &[u16]
+        requires { GoodOrder (order_of self.now) }
+        ensures { result.now ≡ groups_of (order_of self.now) }
+    {
+        let channels = self.channels as usize;
+        &self.recording[self.first * channels..(self.last + 1) * channels]
     }
-    if !is_choice(recording, channels, first, last, mask) {
-        return 23;
+
+    // 02: "Refusals, in order: 22 channels in a group not 1 to 20, or length no whole number of groups; 23 empty choice, a channel outside
+    // the group, or groups out of range or reversed; then 20 and 21". The records of the mask and of each value have eight bytes.
+    pub(crate) fn check(&self, length: usize, place: usize) -> Result<(), WriteRefusal>
+        ensures { outcome_number result ≡ cut_refusal (order_of self.now) length place }
+    {
+        if !self.is_grouped() {
+            return Err(WriteRefusal::PartOfAGroup);
+        }
+        if !self.is_choice() {
+            return Err(WriteRefusal::NoChoice);
+        }
+        check_room(length, place, 1 + 8 * (1 + self.values() as u128))
     }
-    if length < place {
-        return 20;
-    }
-    if lacks_room(length - place, values_of(first, last, mask)) {
-        return 21;
-    }
-    0
 }

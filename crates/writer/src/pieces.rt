@@ -1,28 +1,40 @@
-// Numbers as bytes, big-endian, each from a place on; the answer is the place after it.
-ghost use Rattle.std.specs.Prelude.{◌+◌, ◌%◌, ◌≤◌, ◌<◌, [], ◌∷◌, length};
-ghost use Rattle.file_rules.specs.Bytes.{two, four};
+// Bytes put into an output, from a place on; the answer is the place after them.
+ghost use Rattle.std.specs.Prelude.{◌+◌, ◌≤◌, ◌<◌, length};
+ghost use Rattle.rules.specs.declared.Event.TheVariants.{Write as write};
+ghost use Rattle.file_rules.specs.Bytes.{bytes_of};
 ghost use Rattle.file_rules.specs.Pieces.{Piece};
+ghost use Rattle.writer.specs.Records.{record_of};
 
-pub(crate) fn put_one(out: &mut [u8], at: usize, n: u32) -> usize
-    requires { at < length out.old }
-    ensures { Piece out.old at (n % 256 ∷ []) out.new result }
+pub(crate) fn put<const N: usize>(out: &mut [u8], at: usize, bytes: [u8; N]) -> usize
+    requires { at + N ≤ length out.old }
+    ensures { Piece out.old at bytes.entry out.new result }
 {
-    out[at] = (n % 256) as u8;
-    at + 1
+    let end = at + N;
+    out[at..end].copy_from_slice(&bytes);
+    end
 }
 
-pub(crate) fn put_two(out: &mut [u8], at: usize, n: u32) -> usize
-    requires { at + 2 ≤ length out.old }
-    ensures { Piece out.old at (two n) out.new result }
+// 01: "two-byte big-endian length of what follows, kind, fields"
+pub(crate) fn put_record<const N: usize>(
+    out: &mut [u8],
+    at: usize,
+    kind: u8,
+    fields: [u8; N],
+) -> usize
+    requires small { N < 65535 }
+    requires room { at + 3 + N ≤ length out.old }
+    ensures { Piece out.old at (record_of kind fields.entry) out.new result }
 {
-    let p = put_one(out, at, n / 256);
-    put_one(out, p, n)
+    let [high, low] = ((N + 1) as u16).to_be_bytes();
+    let p = put(out, at, [high, low, kind]);
+    put(out, p, fields)
 }
 
-pub(crate) fn put_four(out: &mut [u8], at: usize, n: u32) -> usize
-    requires { at + 4 ≤ length out.old }
-    ensures { Piece out.old at (four n) out.new result }
+// The record of a write: 01, "write (offset, value in four)".
+pub(crate) fn put_write(out: &mut [u8], at: usize, offset: u8, value: u32) -> usize
+    requires { at + 8 ≤ length out.old }
+    ensures { Piece out.old at (bytes_of (write offset value)) out.new result }
 {
-    let p = put_two(out, at, n / 65536);
-    put_two(out, p, n % 65536)
+    let [a, b, c, d] = value.to_be_bytes();
+    put_record(out, at, 2, [offset, a, b, c, d])
 }

@@ -2,7 +2,10 @@
 use native.Mathlib.Omega.{arith}
 use Prim.Native.Nat.{ℕ}
 use mathlib.Core.Path.{◌≡◌, sym, ap, ◌∙◌}
+use mathlib.Core.Bool.{false}
 use mathlib.Core.List.{List}
+use lib.Dec.{eqb}
+use lib.ListN.{length}
 use borrow.Author.Rules.{rules}
 use borrow.Author.Tests.{eq-eqb, ne_eqb}
 use Rattle.file_rules.specs.Row.{event_of_row}
@@ -24,7 +27,8 @@ pub returns-then-misfit : goal.returns-then-misfit
 unfolding call_status
 returns-then-misfit c =
     let whole = c.in-Some.ensures.cases in
-    not_understood _ _ _ _ 3 (rw (eq-eqb _ _ c.if-other.false, eq-eqb _ _ whole.long, ne_eqb _ _ c.if-misfit.true)) (λ k. omega arith)
+    let room : eqb (length c.args.answer.now) 4 ≡ false = ne_eqb _ _ (λ k. omega arith) in
+    not_understood _ _ _ _ 3 (rw (eq-eqb _ _ c.if-other.false, eq-eqb _ _ whole.long, room)) (λ k. omega arith)
 
 pub returns-in_err-event : goal.returns-in_err-event
 unfolding call_status

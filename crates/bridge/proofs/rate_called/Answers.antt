@@ -3,6 +3,7 @@ use Prim.Native.Nat.{ℕ}
 use mathlib.Core.Path.{◌≡◌, refl, sym, ap, ◌∙◌}
 use mathlib.Core.Bool.{false}
 use mathlib.Core.List.{List}
+use native.Mathlib.Omega.{arith}
 use borrow.Author.Tests.{eq-eqb, ne_eqb}
 use lib.Dec.{eqb}
 use lib.ListN.{length}
@@ -27,7 +28,9 @@ returns-then-other c = not_understood _ _ 1 (rw (ne_eqb _ _ c.if-other.true)) re
 
 pub returns-then-misfit : goal.returns-then-misfit
 unfolding rate_status
-returns-then-misfit c = not_understood _ _ 3 (rw (eq-eqb _ _ c.if-other.false, ne_eqb _ _ c.if-misfit.true)) refl
+returns-then-misfit c =
+    let room : eqb (length c.args.figures.now) 3 ≡ false = ne_eqb _ _ (λ k. omega arith) in
+    not_understood _ _ 3 (rw (eq-eqb _ _ c.if-other.false, room)) refl
 
 pub returns : goal.returns
 unfolding rate_status

@@ -1,12 +1,8 @@
 use mathlib.Core.Path.{◌≡◌, sym, ◌∙◌}
 use native.Mathlib.Omega.{arith}
-use borrow.Author.Tests.{eq-eqb, ne_eqb}
+use borrow.Author.Tests.{eq-eqb}
 use Rattle.rules.specs.Interrupt.{request_after}
 use Rattle.latches.proofs.request_after.Goals as goal
-
-pub returns-then-initialises : goal.returns-then-initialises
-unfolding request_after
-returns-then-initialises c = record { told = rw (sym c.initialises.ensures.told ∙ c.if-initialises.true) }
 
 pub returns-then-b-a : goal.returns-then-b-a
 unfolding request_after
@@ -14,7 +10,3 @@ returns-then-b-a c =
     let g = c.args in
     let unchanged : g.b.core.control.selection ≡ g.a.core.control.selection = omega (arith, c.if-b-a.true) in
     record { told = rw (sym c.initialises.ensures.told ∙ c.if-initialises.false, eq-eqb _ _ unchanged, c.edge.ensures, c.condition-then-b-a.ensures.told, c.condition.ensures.told) }
-
-pub returns : goal.returns
-unfolding request_after
-returns c = record { told = rw (sym c.initialises.ensures.told ∙ c.if-initialises.false, ne_eqb _ _ c.if-b-a.false) }

@@ -2,7 +2,6 @@
 use Prim.Native.Nat.{ℕ, zero, ◌+◌, ◌*◌, ◌/◌, ◌^◌, ◌≤◌, ◌<◌}
 use native.Mathlib.Nat.{div-lt_iff_lt-mul}
 use native.Mathlib.Omega.{arith}
-use Rattle.rules.specs.Rates.{sample_rate}
 use Rattle.rates.proofs.sample_rate.Goals as goal
 
 below : (n d : ℕ) → n ≤ 511 → zero < d → 16000000 * (511 + n) / (511 * d) < 2 ^ 32
@@ -12,11 +11,3 @@ pub overflow_cast-result-then-k : goal.overflow_cast-result-then-k
 overflow_cast-result-then-k c =
     let k = c.args.k in
     record { fits = below k.nclk k.divisor c.requires.0 c.requires.1 }
-
-pub returns-then-k : goal.returns-then-k
-unfolding sample_rate
-returns-then-k c = rw c.if-k.true
-
-pub returns : goal.returns
-unfolding sample_rate
-returns c = rw c.if-k.false

@@ -1,18 +1,29 @@
 -- `cut` meets its contract: refused, nothing is written; else what is written is the session.
-use mathlib.Core.Path.{sym, ◌∙◌}
-use Rattle.cut_rules.proofs.Given.{cut_refused, cut_ends, cut_leaves}
+use mathlib.Core.Path.{sym}
+use lib.ListN.{length}
+use Rattle.std.proofs.lemmas.Result.{err_from_is_err_and}
+use Rattle.cut_rules.proofs.Given.{good_cut}
+use Rattle.writer.specs.Orders.{order_of}
+use Rattle.writer.specs.Written.{outcome_number}
+use Rattle.writer.proofs.Outcomes.{cut_stopped, cut_done}
 use Rattle.writer.proofs.cut.Goals as goal
 
-pub returns-then-n-eq0 : goal.returns-then-n-eq0
-returns-then-n-eq0 c =
-    let good = sym c.cut_refusal-n.ensures ∙ c.if-n-eq0.true in
-    record {
-      refusal = sym good;
-      place_after = c.put_cut-end.ensures.place ∙ sym (cut_ends _ c.args.out.now _ good);
-      output = c.put_cut-end.ensures.text ∙ sym (cut_leaves _ c.args.out.now _ good);
-    }
+pub returns-in_err-check : goal.returns-in_err-check
+unfolding outcome_number
+returns-in_err-check c =
+    let p = err_from_is_err_and c.from_residual.result c.from_residual.ensures.1 in
+    rw (p.1, p.2) (cut_stopped _ _ _ _ c.in_err-check.ensures)
+
+pub put_cut-requires-clause-good : goal.put_cut-requires-clause-good
+unfolding outcome_number
+put_cut-requires-clause-good c =
+    let good = good_cut (order_of c.args.order.now) (length c.args.out.now) c.args.place (sym c.in_ok-check.ensures) in
+    record { count = good.count; grouped = good.grouped; choice = good.choice }
+
+pub put_cut-requires-clause-room : goal.put_cut-requires-clause-room
+unfolding outcome_number
+put_cut-requires-clause-room c = (good_cut (order_of c.args.order.now) (length c.args.out.now) c.args.place (sym c.in_ok-check.ensures)).room
 
 pub returns : goal.returns
-returns c =
-    let none = cut_refused _ c.args.out.now _ (λ z. c.if-n-eq0.false (c.cut_refusal-n.ensures ∙ z)) in
-    record { refusal = c.cut_refusal-n.ensures; place_after = sym none.0; output = sym none.1 }
+unfolding outcome_number
+returns c = cut_done _ _ _ (sym c.in_ok-check.ensures) c.put_cut.ensures

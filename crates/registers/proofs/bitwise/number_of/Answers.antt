@@ -1,6 +1,5 @@
-use mathlib.Core.Path.{sym, ap, ◌∙◌}
 use native.Mathlib.Omega.{arith}
-use Rattle.registers.proofs.BitNumbers.{Reckoned, reckoned_start, reckoned_more, reckoned_fits, reckoned_all, byte_small}
+use Rattle.registers.proofs.BitNumbers.{reckoned_start, reckoned_more, reckoned_fits, reckoned_all, byte_small}
 use Rattle.registers.proofs.bitwise.number_of.Goals as goal
 
 pub loop-bit-init : goal.loop-bit-init

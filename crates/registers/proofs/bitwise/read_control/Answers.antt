@@ -1,6 +1,5 @@
 use mathlib.Core.Path.{◌∙◌}
 use Rattle.rules.specs.Registers.{control_bits, registers, read_from}
-use Rattle.record.specs.Capped.{capped_board}
 use Rattle.registers.proofs.BitNumbers.{bits_of_3}
 use Rattle.registers.proofs.bitwise.read_control.Goals as goal
 

@@ -1,10 +1,12 @@
+use mathlib.Core.Path.{◌≡◌, refl}
+use mathlib.Core.Bool.{Bool, true, false, not, ◌||◌}
 use Rattle.rules.specs.Bits.{only_if}
 use Rattle.soundness.proofs.clauses.only_if.Goals as goal
 
-pub returns-then-a : goal.returns-then-a
+implied : (a b : Bool) → not a || b ≡ only_if a b
 unfolding only_if
-returns-then-a c = rw c.if-a.true
+implied true b = refl
+implied false b = refl
 
 pub returns : goal.returns
-unfolding only_if
-returns c = rw c.if-a.false
+returns c = implied c.args.a c.args.b

@@ -20,7 +20,7 @@ share_of-requires c = omega (arith, small (32768 - c.args.level) _ _ (omega arit
 pub returns-then-negative : goal.returns-then-negative
 unfolding volts_of
 returns-then-negative c =
-    rw (lt-ltb _ _ c.if-negative.true, sym c.factor_of-k.ensures) (ap neg c.share_of.ensures)
+    rw (lt-ltb c.args.level 32768 (omega (arith, c.if-negative.true)), sym c.factor_of-k.ensures) (ap neg c.share_of.ensures)
 
 pub overflow_mul-n-2 : goal.overflow_mul-n-2
 overflow_mul-n-2 c = omega (arith, small (c.args.level - 32768) _ _ (omega arith) c.factor_of-k.ensures)
@@ -30,4 +30,4 @@ share_of-requires-2 c = omega (arith, small (c.args.level - 32768) _ _ (omega ar
 
 pub returns : goal.returns
 unfolding volts_of
-returns c = rw (le-ltb _ _ c.if-negative.false, sym c.factor_of-k.ensures) c.share_of-2.ensures
+returns c = rw (le-ltb c.args.level 32768 (omega (arith, c.if-negative.false)), sym c.factor_of-k.ensures) c.share_of-2.ensures

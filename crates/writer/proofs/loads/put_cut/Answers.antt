@@ -1,93 +1,42 @@
-use Prim.Native.Nat.{◌+◌, ◌^◌, ◌≤◌, ◌<◌}
+use mathlib.Core.Path.{ap, ◌∙◌}
 use native.Mathlib.Omega.{arith}
-use lib.ListN.{length}
-use Rattle.file_rules.proofs.Joined.{piece_length}
-use Rattle.cut_rules.specs.Cut.{Cut}
 use Rattle.cut_rules.proofs.ChosenNumbers.{mask_small}
-use Rattle.cut_rules.proofs.Given.{GoodCut, good_cut}
-use Rattle.writer.specs.Promises.{cut_of}
-use Rattle.writer.proofs.Orders.{countable}
-use Rattle.writer.proofs.Cutting.{session_fits, first_within}
-use Rattle.writer.proofs.Cutting.{cutting_start, group_within, group_inside, group_fits, cutting_next, cutting_over}
+use Rattle.file_rules.proofs.Joined.{then, piece_length}
+use Rattle.writer.proofs.Cutting.{session_long, cutting_start, group_inside, group_fits, cutting_next, cutting_over}
 use Rattle.writer.proofs.loads.put_cut.Goals as goal
 
 pub overflow_add-end : goal.overflow_add-end
-overflow_add-end c =
-    let order : Cut = cut_of c.args.recording.now c.args.channels c.args.first c.args.last c.args.mask in
-    let good : GoodCut order (length c.args.out.now) c.args.place = good_cut order (length c.args.out.now) c.args.place c.requires in
-    omega (arith, session_fits good)
-
-pub values_of-requires : goal.values_of-requires
-values_of-requires c =
-    let order : Cut = cut_of c.args.recording.now c.args.channels c.args.first c.args.last c.args.mask in
-    let good : GoodCut order (length c.args.out.now) c.args.place = good_cut order (length c.args.out.now) c.args.place c.requires in
-    let small : length c.args.recording.now < 2 ^ 64 = omega arith in
-    countable order _ good.grouped good.choice small
+overflow_add-end c = omega (arith, c.requires.room, session_long c.requires.good)
 
 pub overflow_mul-end : goal.overflow_mul-end
-overflow_mul-end c =
-    let order : Cut = cut_of c.args.recording.now c.args.channels c.args.first c.args.last c.args.mask in
-    let good : GoodCut order (length c.args.out.now) c.args.place = good_cut order (length c.args.out.now) c.args.place c.requires in
-    omega (arith, session_fits good, c.values_of.ensures)
+overflow_mul-end c = omega (arith, c.values.ensures, c.requires.room, session_long c.requires.good)
 
 pub overflow_add-end-2 : goal.overflow_add-end-2
-overflow_add-end-2 c =
-    let order : Cut = cut_of c.args.recording.now c.args.channels c.args.first c.args.last c.args.mask in
-    let good : GoodCut order (length c.args.out.now) c.args.place = good_cut order (length c.args.out.now) c.args.place c.requires in
-    omega (arith, session_fits good, c.values_of.ensures)
+overflow_add-end-2 c = omega (arith, c.values.ensures, c.requires.room, session_long c.requires.good)
 
-pub put_mask-to-requires : goal.put_mask-to-requires
-put_mask-to-requires c =
-    let order : Cut = cut_of c.args.recording.now c.args.channels c.args.first c.args.last c.args.mask in
-    let good : GoodCut order (length c.args.out.now) c.args.place = good_cut order (length c.args.out.now) c.args.place c.requires in
-    omega (arith, session_fits good)
+pub put-to-requires : goal.put-to-requires
+put-to-requires c = omega (arith, c.requires.room, session_long c.requires.good)
 
-pub overflow_mul-base : goal.overflow_mul-base
-overflow_mul-base c =
-    let order : Cut = cut_of c.args.recording.now c.args.channels c.args.first c.args.last c.args.mask in
-    let good : GoodCut order (length c.args.out.now) c.args.place = good_cut order (length c.args.out.now) c.args.place c.requires in
-    omega (arith, first_within good)
+pub put_write-to-requires : goal.put_write-to-requires
+put_write-to-requires c = omega (arith, c.put-to.ensures.place, piece_length c.put-to.ensures, c.requires.room, session_long c.requires.good)
 
-pub loop-to-init : goal.loop-to-init
-loop-to-init c =
-    let order : Cut = cut_of c.args.recording.now c.args.channels c.args.first c.args.last c.args.mask in
-    let good : GoodCut order (length c.args.out.now) c.args.place = good_cut order (length c.args.out.now) c.args.place c.requires in
-    cutting_start _ _ _ good _ (omega (arith, c.values_of.ensures)) _ _ c.put_mask-to.ensures
+pub loop-group-init : goal.loop-group-init
+loop-group-init c =
+    cutting_start c.requires.good c.requires.room (omega (arith, c.values.ensures)) (then c.put-to.ensures c.put_write-to.ensures) _ _
+    (ap (λ x. x.rest.now) c.into_iter-group-iterator.ensures.into_iter_gives ∙ c.chunks_exact-group-items.ensures.rest ∙ c.groups.ensures)
+    (ap (λ x. x.size) c.into_iter-group-iterator.ensures.into_iter_gives ∙ c.chunks_exact-group-items.ensures.size)
 
-pub put_group-to-requires : goal.put_group-to-requires
-put_group-to-requires c =
-    let order : Cut = cut_of c.args.recording.now c.args.channels c.args.first c.args.last c.args.mask in
-    let good : GoodCut order (length c.args.out.now) c.args.place = good_cut order (length c.args.out.now) c.args.place c.requires in
-    let g = good in
-    let s = c.loop-to.invariant in
-    record { small = mask_small _ _ g.grouped g.choice; inside = group_inside g s c.loop-to-test.true; room = group_fits g s c.loop-to-test.true }
+pub put_group-to-requires-clause-small : goal.put_group-to-requires-clause-small
+put_group-to-requires-clause-small c = mask_small _ _ c.requires.good.grouped c.requires.good.choice
 
-pub overflow_add-base : goal.overflow_add-base
-overflow_add-base c =
-    let order : Cut = cut_of c.args.recording.now c.args.channels c.args.first c.args.last c.args.mask in
-    let good : GoodCut order (length c.args.out.now) c.args.place = good_cut order (length c.args.out.now) c.args.place c.requires in
-    let within : c.loop-to.base + c.args.channels ≤ length c.args.recording.now = group_within good c.loop-to.invariant c.loop-to-test.true in
-    omega (arith, within)
+pub put_group-to-requires-clause-inside : goal.put_group-to-requires-clause-inside
+put_group-to-requires-clause-inside c = group_inside c.requires.good c.loop-group.invariant _ _ c.in-Some.ensures.steps.1.0 c.in-Some.ensures.steps.1.1
 
-pub loop-to-smaller : goal.loop-to-smaller
-loop-to-smaller c =
-    let order : Cut = cut_of c.args.recording.now c.args.channels c.args.first c.args.last c.args.mask in
-    let good : GoodCut order (length c.args.out.now) c.args.place = good_cut order (length c.args.out.now) c.args.place c.requires in
-    let within : c.loop-to.base + c.args.channels ≤ length c.args.recording.now = group_within good c.loop-to.invariant c.loop-to-test.true in
-    omega (arith, within, good.grouped.some)
+pub put_group-to-requires-clause-room : goal.put_group-to-requires-clause-room
+put_group-to-requires-clause-room c = group_fits c.requires.good c.loop-group.invariant _ _ c.in-Some.ensures.steps.1.0 c.in-Some.ensures.steps.1.1
 
-pub loop-to-preserved : goal.loop-to-preserved
-loop-to-preserved c =
-    let order : Cut = cut_of c.args.recording.now c.args.channels c.args.first c.args.last c.args.mask in
-    let good : GoodCut order (length c.args.out.now) c.args.place = good_cut order (length c.args.out.now) c.args.place c.requires in
-    cutting_next good c.loop-to.invariant c.loop-to-test.true _ _ c.put_group-to.ensures
+pub loop-group-preserved : goal.loop-group-preserved
+loop-group-preserved c = cutting_next c.requires.good c.loop-group.invariant _ _ c.in-Some.ensures.steps.1.0 c.in-Some.ensures.steps.1.1 _ _ c.put_group-to.ensures _ c.in-Some.ensures.steps.0
 
 pub returns : goal.returns
-returns c =
-    let order : Cut = cut_of c.args.recording.now c.args.channels c.args.first c.args.last c.args.mask in
-    let good : GoodCut order (length c.args.out.now) c.args.place = good_cut order (length c.args.out.now) c.args.place c.requires in
-    cutting_over _ _ _ good _ (omega (arith, c.values_of.ensures)) _ _ c.put_mask-to.ensures _ _ _
-    c.loop-to.invariant c.loop-to-test.false
-
-pub shape_of-out : goal.shape_of-out
-shape_of-out c = piece_length (returns c)
+returns c = cutting_over c.requires.good c.requires.room (omega (arith, c.values.ensures)) (then c.put-to.ensures c.put_write-to.ensures) c.loop-group.invariant c.in-None.ensures.steps.1.0

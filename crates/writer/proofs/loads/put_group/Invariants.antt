@@ -3,7 +3,7 @@ use Rattle.writer.proofs.Grouping.{Grouping}
 use Rattle.writer.proofs.loads.put_group.Given as goal
 
 abbrev pub invariant-loop-waiting : goal.invariant-loop-waiting
-invariant-loop-waiting l = Grouping l.recording l.base l.mask l.end l.initial.out l.to l.out l.at l.waiting
+invariant-loop-waiting l = Grouping l.group l.mask l.end l.initial.out l.to l.out l.at l.waiting
 
 abbrev pub decreases-loop-waiting : goal.decreases-loop-waiting
 decreases-loop-waiting l = l.waiting

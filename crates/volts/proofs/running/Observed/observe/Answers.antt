@@ -16,6 +16,6 @@ returns c =
       board = s.board;
       memory = s.memory;
       channels = λ w h same.
-          c.watch-self.ensures w h (λ f. subst (SameRange w) (sym s.board) (same (sym fresh ∙ f)))
+          c.watch.ensures w h (λ f. subst (SameRange w) (sym s.board) (same (sym fresh ∙ f)))
           ∙ (λ i. seen_of (watched (fresh i) (s.board i) w));
     }

@@ -1,2 +1,0 @@
--- What the functions' proofs cite; each file opens with what it shows.
-pub mod Conditions

@@ -1,0 +1,2 @@
+-- What the functions' proofs cite; each file opens with what it shows.
+pub mod Joined
