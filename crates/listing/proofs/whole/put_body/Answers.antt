@@ -59,9 +59,9 @@ loop-event-preserved c =
     let stood = sym c.next.ensures.told ∙ ap ahead_of told in
     let f = h.fair in
     let text =
-        subst (λ (a : Answer). Piece c.hurry-here.new.out here.at (line here.number a c.step-reply.result.board.ring.count) c.put_line-at.new.out c.put_line-at.result)
-        c.from-answered.ensures
-        (printed_piece c.put_line-at.ensures (line_room _ _ here _ _ f))
+    subst (λ (a : Answer). Piece c.hurry-here.new.out here.at (line here.number a c.step-reply.result.board.ring.count) c.put_line-at.new.out c.put_line-at.result)
+    c.from-answered.ensures
+    (printed_piece c.put_line-at.ensures (line_room _ _ here _ _ f))
     in
     let on = walked_on _ here.cursor here _ _ f c.in-Ok-Some.cursor c.in-Ok-Some.event stood _ _ _ _ c.step-reply.ensures text in (
       c.step-reply.auto.memory ∙ c.hurry-here.auto.memory ∙ l.invariant.0,
