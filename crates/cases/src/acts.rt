@@ -17,75 +17,97 @@
 //                        the refusal, and where the cutter stopped
 //   Bytes.               prints the 40 bytes in which the output is the first n
 //   Tell(place)          prints the row of the event at a place of the output, and the place after it
-use crate::desk::{Desk, cleared};
-use crate::device::{event, set};
-use crate::extract::extracted;
-use crate::sheet::{cut, put, written};
+use crate::desk::Desk;
+use crate::extract::Group;
 use crate::{endings, figures, print, sheet};
+use std::alloc::{AllocError, Global};
 use std::io;
 
-#[derive(Clone, Copy)]
+#[derive(Drop)]
 pub(crate) enum Act {
     Unpowered,
-    Lent,
-    Set,
-    Event,
+    Lent(u32),
+    Set { place: u32, value: u32 },
+    Event([u32; 6]),
     Answer,
     Value,
-    Number,
-    Memory,
+    Number(u32),
+    Memory(u32),
     Figures,
-    Run,
-    Put,
-    Cut,
-    Write,
-    Group,
+    Run(Vec<u8>),
+    Put([u32; 6]),
+    Cut(u32),
+    Write { room: u32, place: u32 },
+    Group(Group),
     Bytes,
-    Tell,
+    Tell(u32),
 }
 
-impl From<u8> for Act {
-    // A letter that opens no act runs a session file.
-    fn from(letter: u8) -> Act {
-        match letter {
-            b'U' => Act::Unpowered,
-            b'L' => Act::Lent,
-            b'S' => Act::Set,
-            b'E' => Act::Event,
-            b'A' => Act::Answer,
-            b'V' => Act::Value,
-            b'N' => Act::Number,
-            b'M' => Act::Memory,
-            b'F' => Act::Figures,
-            b'P' => Act::Put,
-            b'C' => Act::Cut,
-            b'W' => Act::Write,
-            b'G' => Act::Group,
-            b'B' => Act::Bytes,
-            b'T' => Act::Tell,
-            _ => Act::Run,
+// The numbers of an act, in the six places that it has for them. A longer list goes on from the first place, and after the first
+// number and sixteen more from the second.
+fn places(numbers: &[u32]) -> [u32; 6] {
+    let mut six = [0; 6];
+    if let [first, rest @ ..] = numbers {
+        six[0] = *first;
+        for sixteen in rest.chunks(16) {
+            for (at, n) in sixteen.iter().enumerate() {
+                six[(at + 1) % 6] = *n;
+            }
         }
     }
+    six
 }
 
-pub(crate) fn done(rt: &HostRuntime, desk: &mut Desk) -> io::Result<()> {
-    match desk.act {
-        Act::Unpowered => *desk = cleared(rt.alloc()),
-        Act::Lent => desk.lent = desk.numbers[0],
-        Act::Set => set(desk),
-        Act::Event => event(desk),
-        Act::Put => put(desk)?,
-        Act::Cut => cut(desk),
-        Act::Write => written(rt, desk)?,
-        Act::Group => extracted(rt, desk)?,
-        Act::Answer => print::field(rt, desk.refusal)?,
-        Act::Value => print::field(rt, desk.register)?,
-        Act::Number => print::entry(rt, &desk.row, desk.numbers[0])?,
-        Act::Memory => print::entry(rt, &desk.memory, desk.numbers[0])?,
-        Act::Figures => figures::asked(rt, &desk.row)?,
-        Act::Bytes => print::fields(rt, &desk.output)?,
-        Act::Tell => sheet::told(rt, &desk.output, desk.numbers[0])?,
-        Act::Run => endings::told(rt, desk.bytes.as_slice())?,
+// A session file has its bytes in sixteens, of which the last counts.
+fn file(alloc: Global, numbers: &[u32]) -> Result<Vec<u8>, AllocError> {
+    let sixteen = numbers.chunks(16).last().unwrap_or(&[]);
+    sixteen.iter().map(|n| (*n % 256) as u8).collect(alloc)
+}
+
+// The act of a letter and numbers. A letter that opens no act runs a session file.
+pub(crate) fn act_of(alloc: Global, letter: u8, numbers: &[u32]) -> Result<Act, AllocError> {
+    let six = places(numbers);
+    let [a, b, ..] = six;
+    Ok(match letter {
+        b'U' => Act::Unpowered,
+        b'L' => Act::Lent(a),
+        b'S' => Act::Set { place: a, value: b },
+        b'E' => Act::Event(six),
+        b'A' => Act::Answer,
+        b'V' => Act::Value,
+        b'N' => Act::Number(a),
+        b'M' => Act::Memory(a),
+        b'F' => Act::Figures,
+        b'P' => Act::Put(six),
+        b'C' => Act::Cut(a),
+        b'W' => Act::Write { room: a, place: b },
+        b'G' => Act::Group(Group::from(six)),
+        b'B' => Act::Bytes,
+        b'T' => Act::Tell(a),
+        _ => Act::Run(file(alloc, numbers)?),
+    })
+}
+
+impl Desk {
+    pub(crate) fn act(&mut self, rt: &HostRuntime, act: Act) -> io::Result<()> {
+        match act {
+            Act::Unpowered => *self = Desk::new(rt.alloc()),
+            Act::Lent(entries) => self.lent = entries,
+            Act::Set { place, value } => self.set(place, value),
+            Act::Event(event) => self.play(&event),
+            Act::Put(row) => self.put(&row)?,
+            Act::Cut(n) => self.cut(n),
+            Act::Write { room, place } => self.write(rt, room, place)?,
+            Act::Group(group) => self.extract(rt, group)?,
+            Act::Answer => print::field(rt, self.refusal)?,
+            Act::Value => print::field(rt, self.register)?,
+            Act::Number(at) => print::entry(rt, &self.row, at)?,
+            Act::Memory(at) => print::entry(rt, &self.memory, at)?,
+            Act::Figures => figures::print_figures(rt, &self.row)?,
+            Act::Bytes => print::fields(rt, &self.output)?,
+            Act::Tell(place) => sheet::print_row(rt, &self.output, place)?,
+            Act::Run(file) => endings::print_ending(rt, file.as_slice())?,
+        }
+        Ok(())
     }
-    Ok(())
 }

@@ -1,5 +1,4 @@
 // The desk at which a case is worked: a board, and what has been read of the line.
-use crate::acts::Act;
 use std::alloc::Global;
 
 #[derive(Drop)]
@@ -12,30 +11,29 @@ pub(crate) struct Desk {
     // By which number the last event was refused, and what it read, as hosts have them.
     pub(crate) refusal: u32,
     pub(crate) register: u32,
-    // The act and the number that are being read.
-    pub(crate) act: Act,
+    // The act that is being read: its letter, its numbers so far, and the one whose digits are being read.
+    pub(crate) letter: u8,
+    pub(crate) numbers: Vec<u32>,
     pub(crate) number: u32,
-    // The numbers that the act has before that one, as they are and as bytes.
-    pub(crate) numbers: [u32; 6],
-    pub(crate) bytes: Vec<u8>,
     // Rows for the writer, and its output.
     pub(crate) slice: Vec<u32>,
     pub(crate) output: [u8; 40],
 }
 
-// An unpowered board. It is lent 8 entries of memory, the least depth, and they have values that no load stores.
-pub(crate) fn cleared(alloc: Global) -> Desk {
-    Desk {
-        row: [0; 55],
-        memory: [7000000; 16384],
-        lent: 8,
-        refusal: 99,
-        register: 99,
-        act: Act::Run,
-        number: 0,
-        numbers: [0; 6],
-        bytes: Vec::new(alloc),
-        slice: Vec::new(alloc),
-        output: [238; 40],
+impl Desk {
+    // An unpowered board. It is lent 8 entries of memory, the least depth, and they have values that no load stores.
+    pub(crate) fn new(alloc: Global) -> Desk {
+        Desk {
+            row: [0; 55],
+            memory: [7000000; 16384],
+            lent: 8,
+            refusal: 99,
+            register: 99,
+            letter: b'R',
+            numbers: Vec::new(alloc),
+            number: 0,
+            slice: Vec::new(alloc),
+            output: [238; 40],
+        }
     }
 }

@@ -3,8 +3,7 @@
 #![tactic(auto)]
 
 use console::read_all;
-use desk::cleared;
-use line::read;
+use desk::Desk;
 use std::io;
 
 mod acts;
@@ -18,9 +17,9 @@ mod print;
 mod sheet;
 
 fn work(rt: &HostRuntime, text: &[u8]) -> io::Result<()> {
-    let mut desk = cleared(rt.alloc());
+    let mut desk = Desk::new(rt.alloc());
     for line in text.split_inclusive(|c| *c == b'\n') {
-        read(rt, &mut desk, line)?;
+        desk.read(rt, line)?;
     }
     Ok(())
 }

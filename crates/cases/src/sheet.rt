@@ -6,29 +6,29 @@ use run::Cursor;
 use std::io;
 use writer::WriteRefusal;
 
-// A row joins the slice; there is room for four.
-pub(crate) fn put(desk: &mut Desk) -> io::Result<()> {
-    let held = desk.slice.len() % 19;
-    desk.slice.truncate(held);
-    desk.slice.extend_from_slice(&desk.numbers)?;
-    Ok(())
-}
+impl Desk {
+    // A row joins the slice; there is room for four.
+    pub(crate) fn put(&mut self, row: &[u32; 6]) -> io::Result<()> {
+        let held = self.slice.len() % 19;
+        self.slice.truncate(held);
+        self.slice.extend_from_slice(row)?;
+        Ok(())
+    }
 
-// The slice without its last numbers.
-pub(crate) fn cut(desk: &mut Desk) {
-    let n = desk.numbers[0] as usize;
-    let held = desk.slice.len();
-    desk.slice.truncate(held.saturating_sub(n));
-}
+    // The slice without its last numbers.
+    pub(crate) fn cut(&mut self, n: u32) {
+        let held = self.slice.len();
+        self.slice.truncate(held.saturating_sub(n as usize));
+    }
 
-// The slice is written into an output of so many bytes, from a place on.
-pub(crate) fn written(rt: &impl Print, desk: &mut Desk) -> io::Result<()> {
-    let mut output = [238u8; 40];
-    let room = (desk.numbers[0] % 41) as usize;
-    let place = desk.numbers[1] as usize;
-    let outcome = writer::write(desk.slice.as_slice(), &mut output[..room], place);
-    desk.output = output;
-    print_outcome(rt, outcome)
+    // The slice is written into an output of so many bytes, from a place on.
+    pub(crate) fn write(&mut self, rt: &impl Print, room: u32, place: u32) -> io::Result<()> {
+        let mut output = [238; 40];
+        let room = (room % 41) as usize;
+        let outcome = writer::write(self.slice.as_slice(), &mut output[..room], place as usize);
+        self.output = output;
+        print_outcome(rt, outcome)
+    }
 }
 
 // By which number a session is refused, 0 where it was written; and the place after it, 0 where it was refused.
@@ -45,7 +45,7 @@ pub(crate) fn print_outcome(
 }
 
 // The row of the event at a place of the output, and the place after it; nothing where there is none.
-pub(crate) fn told(rt: &impl Print, output: &[u8; 40], place: u32) -> io::Result<()> {
+pub(crate) fn print_row(rt: &impl Print, output: &[u8; 40], place: u32) -> io::Result<()> {
     let cursor = Cursor {
         place: place as usize,
     };

@@ -18,14 +18,24 @@ impl From<HexError> for Wrong {
     }
 }
 
-// What is said behind the example's name.
+impl Wrong {
+    // The ending of the file that is at fault; none where it is the example.
+    pub(crate) fn ending(&self) -> &str {
+        match self {
+            Wrong::Unread(ending) => ending,
+            _ => "",
+        }
+    }
+}
+
+// What is said behind the name of the file or the example.
 impl fmt::Display for Wrong {
     fn fmt<W: fmt::Write>(&self, f: &mut fmt::Formatter<W>) -> fmt::Result {
         match self {
-            Wrong::Unread(ending) => write!(f, "{ending} cannot be read"),
-            Wrong::Hex(why) => write!(f, " {why}"),
-            Wrong::TooLong => write!(f, " is too long"),
-            Wrong::DiffersAt(place) => write!(f, " differs at byte {place}"),
+            Wrong::Unread(_) => write!(f, "cannot be read"),
+            Wrong::Hex(why) => write!(f, "{why}"),
+            Wrong::TooLong => write!(f, "is too long"),
+            Wrong::DiffersAt(place) => write!(f, "differs at byte {place}"),
         }
     }
 }

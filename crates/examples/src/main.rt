@@ -59,7 +59,7 @@ fn play_document(rt: &HostRuntime, name: &str) -> Result<(), Wrong> {
 fn say(rt: &impl Print, name: &str, outcome: Result<(), Wrong>) -> io::Result<()> {
     match outcome {
         Ok(()) => println!(rt; "{name} as expected"),
-        Err(why) => println!(rt; "{name}{why}"),
+        Err(why) => println!(rt; "{name}{} {why}", why.ending()),
     }
 }
 

@@ -24,9 +24,9 @@ pub fn decode(text: &[u8], out: &mut [u8]) -> Result<usize, HexError>
             Mark::Passed(x) => {
                 at += 1;
                 comment = x;
-                continue;
             }
             Mark::Byte(b) => {
+                // std's `get_mut` promises of the slice after it the length alone, and not what is written
                 if out.len() <= n {
                     return Err(HexError::Full);
                 }
@@ -34,7 +34,6 @@ pub fn decode(text: &[u8], out: &mut [u8]) -> Result<usize, HexError>
                 at += 2;
                 comment = false;
                 n += 1;
-                continue;
             }
             Mark::Fault => {
                 return Err(HexError::NotHex(at));

@@ -14,19 +14,20 @@ fn char_at(text: &[u8], at: usize) -> u8
 fn is_control(c: u8, next: u8) -> bool
     ensures { result ≡ is_control c next }
 {
-    ((c < b' ') & !((c == b'\t') | (c == b'\n') | ((c == b'\r') & (next == b'\n')))) | (c == 127)
+    let shown = matches!(c, b'\t' | b'\n') || c == b'\r' && next == b'\n';
+    c.is_ascii_control() && !shown
 }
 
 fn is_blank(c: u8) -> bool
     ensures { result ≡ is_blank c }
 {
-    (c == b' ') | (c == b'\t') | (c == b'\n') | (c == b'\r')
+    matches!(c, b' ' | b'\t' | b'\n' | b'\r')
 }
 
 fn in_comment(before: bool, c: u8) -> bool
     ensures { result ≡ in_comment before c }
 {
-    (before | (c == b'#')) & !(c == b'\n')
+    (before || c == b'#') && c != b'\n'
 }
 
 // The byte of two digits, the first the more significant.

@@ -20,6 +20,7 @@ fn give(program: &Program<'_>, bytes: &[u8]) -> Result<(), Said> {
 fn show(program: &Program<'_>, text: &[u8]) -> Result<(), Said> {
     let mut out = [0u8; 65537];
     match decode(text, &mut out) {
+        // `decode` promises n as how many bytes the text says; that they have room would be a proof here, and `min` needs none
         Ok(n) => give(program, &out[..n.min(out.len())]),
         Err(HexError::Full) => give(program, &out),
         Err(HexError::NotHex(at)) => {

@@ -10,6 +10,7 @@ fn show(program: &Program<'_>, file: &[u8]) -> Result<(), Said> {
     let mut memory = [0u32; 16384];
     let mut out = room::<1441952>();
     match list(file, &mut memory, &mut out) {
+        // `list` promises n as the length of the listing; that no listing outgrows the room would be a proof here, and `min` needs none
         Ok(n) => program.write_output(&out[..n.min(out.len())]),
         // never with the room above
         Err(_) => Ok(()),
