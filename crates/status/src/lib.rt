@@ -15,6 +15,10 @@ ghost use Rattle.record.specs.Capped.{capped};
 use record::depth_of;
 use rules::{Core, Event, Size};
 
+mod bits;
+
+pub use bits::bit;
+
 // 01: "closed = circular and not opened"
 pub fn closed(c: Core) -> bool
     ensures { Told (closed c) result }
@@ -84,7 +88,7 @@ pub fn is_full(size: u32, count: u32) -> bool
 pub fn write_initialises(offset: u32, value: u32) -> bool
     ensures { Told (initialises (write offset value)) result }
 {
-    (offset == 0x00) & (value / 32768 % 2 == 1)
+    (offset == 0x00) & bit(value, 15)
 }
 
 // Power-up, or such a write.
