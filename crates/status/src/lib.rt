@@ -66,14 +66,14 @@ pub fn is_empty(count: u32) -> bool
 pub fn is_low(size: u32, count: u32) -> bool
     ensures { Told (ltb (4 * count) size) result }
 {
-    4 * (count as u64) < size as u64
+    4 * u64::from(count) < u64::from(size)
 }
 
 // 02, 2026-06: "high quarter when 4·count is at least 3·size"
 pub fn is_high(size: u32, count: u32) -> bool
     ensures { Told (leb (3 * size) (4 * count)) result }
 {
-    3 * (size as u64) <= 4 * (count as u64)
+    3 * u64::from(size) <= 4 * u64::from(count)
 }
 
 // 01: "full at count ≥ size"
