@@ -10,7 +10,7 @@ ghost use Rattle.record.specs.Capped.{capped_board};
 
 use crate::latched::{code_of, edge};
 use rules::{Board, Event, Size};
-use status::{active_size, burst_ready, closed, initialises, is_empty, is_high, is_low};
+use status::{active_size, bit, burst_ready, closed, initialises, is_empty, is_high, is_low};
 
 mod latched;
 
@@ -59,7 +59,7 @@ pub fn request_held(q: bool, e: Event) -> bool
     ensures { Told (request_held q e) result }
 {
     match e {
-        Event::Write { offset, value } => q & ((offset != 0x00) | (value / 2048 % 2 == 1)),
+        Event::Write { offset, value } => q & ((offset != 0x00) | bit(value, 11)),
         _ => q,
     }
 }

@@ -10,6 +10,7 @@ use crate::limits::fits;
 use crate::ring::{pass, wrapped};
 use channels::ActiveChannels;
 use rules::{Burst, Core, Fate, Load, Ring};
+use status::bit;
 
 mod fates;
 mod frames;
@@ -73,7 +74,7 @@ pub fn deal(
         marks |= passed.value;
         ring = passed.ring;
     }
-    let ended = marks / 65536 % 2 == 1;
+    let ended = bit(marks, 16);
     Frame {
         ring,
         burst: burst_after(ended, x.burst),

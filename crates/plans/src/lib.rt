@@ -10,7 +10,6 @@ use crate::signals::on_signal;
 use crate::writes::{initial, on_write};
 use rules::{Core, Event, Options, Settings};
 
-mod bits;
 mod signals;
 mod states;
 mod writes;

@@ -4,13 +4,12 @@ ghost use Rattle.plans.specs.Parts.{core_of, buffer_act};
 ghost use Rattle.plans.specs.Plan.{write_plan};
 ghost use Rattle.rules.specs.Writes.{initial, control_of, burst_of, cursor_of, calibration_of, write_control, write_mask, write_rate, write_adjust, mode_of, lost_of, load_kept, load_asked, buffer_of};
 
-use crate::bits::bit;
 use crate::signals::clocks_if;
 use crate::states::clock_accepted;
 use crate::{Act, Plan};
 use record::mask_limit;
 use rules::{Burst, Calibration, Clock, Control, Core, Load, Lost, Mode, Options, Outputs};
-use status::write_initialises;
+use status::{bit, write_initialises};
 
 // 01: "Initialise: BCR 00000810h, mask of all fitted channels, divisor 0064h, .." What is not written here is zero.
 #[tactic(auto, unfolding(rules::specs::Writes::initial))]

@@ -90,14 +90,14 @@ fn sample_rate(k: Clock) -> u32
     ensures { result ≡ sample_rate k }
 {
     if k.alt {
-        let hertz = 16000000 * (511 + k.nclk as u64);
-        (hertz / (511 * k.divisor as u64)) as u32
+        let hertz = 16000000 * (511 + u64::from(k.nclk));
+        (hertz / (511 * u64::from(k.divisor))) as u32
     } else {
         30000000 / k.divisor
     }
 }
 
-// The rate figures of a board record, or the refusal 3, 9 or 8.
+// The rate figures of a board record; refused where it is unsound, else with an external clock, else with a divisor of zero.
 pub fn rate(b: Board) -> Result<Frequencies, Refusal>
     ensures { Told (rates b) (figures_of result) }
 {

@@ -17,7 +17,8 @@ pub fn unpowered() -> Board
     Board::default()
 }
 
-// 01: "a fitted code d (0 to 15), range, filter and kit codes (0 to 2) and a firmware number (0 to 4095)"
+// 01: "a fitted code d (0 to 15), range, filter and kit codes (0 to 2) and a firmware number (0 to 4095)".
+// Each of the three is a rule of 01.
 pub fn fitted_in_range(d: u32) -> bool
     ensures { Told (fitted_in_range d) result }
 {

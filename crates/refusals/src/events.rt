@@ -1,5 +1,5 @@
 // The refusals of each kind of event, in 01's order.
-ghost use Rattle.std.specs.Prelude.{ℕ, ◌≡◌, not, cond, List, length, eqb};
+ghost use Rattle.std.specs.Prelude.{ℕ, ◌≡◌, not, cond, List, length, eqb, ltb};
 ghost use Rattle.rules.specs.Numbered.{outcome_number};
 ghost use Rattle.rules.specs.Record.{depth, sound, state_of};
 ghost use Rattle.rules.specs.Registers.{is_offset};
@@ -56,38 +56,41 @@ pub(crate) fn ends_nothing(c: Core, x: Signal) -> bool
     }
 }
 
-// 02: "then 2". The depth is reckoned only of a fitted code in range.
-pub(crate) fn judge_power_up(x: Settings, len: usize) -> Result<(), Refusal>
-    ensures { (b : Board) (m : List ℕ) → length m ≡ len → outcome_number result ≡ refusal (state_of b m) (power_up x) }
+// "sample memory shorter than the depth"
+#[tactic(auto, unfolding(rules::specs::Numbered::refusal_number))]
+pub(crate) fn judge_memory(len: usize, depth: u32) -> Result<(), Refusal>
+    ensures { outcome_number result ≡ cond (ltb len depth) 2 0 }
 {
-    judge_settings(x)?;
-    if len < depth_of(x.fitted) as usize {
+    if len < depth as usize {
         return Err(Refusal::ShortMemory);
     }
     Ok(())
 }
 
-// 3, then 2.
+// The settings, then the memory. The depth is reckoned only of a fitted code in range.
+pub(crate) fn judge_power_up(x: Settings, len: usize) -> Result<(), Refusal>
+    ensures { (b : Board) (m : List ℕ) → length m ≡ len → outcome_number result ≡ refusal (state_of b m) (power_up x) }
+{
+    judge_settings(x)?;
+    judge_memory(len, depth_of(x.fitted))
+}
+
+// An unsound record, then a short memory.
 pub(crate) fn judge_record(b: Board, len: usize) -> Result<(), Refusal>
     ensures { (m : List ℕ) → length m ≡ len → (n : ℕ) → cond (not (sound b)) 3 (cond (too_short m (depth b)) 2 n) ≡ cond (eqb (outcome_number result) 0) n (outcome_number result) }
 {
     if !is_sound(b) {
         return Err(Refusal::Unsound);
     }
-    if len < depth(b) as usize {
-        return Err(Refusal::ShortMemory);
-    }
-    Ok(())
+    judge_memory(len, depth(b))
 }
 
-// 4, 5, 6 of a write.
+// A write: no such register, then a read-only one, then a calibration that runs.
 #[tactic(auto, unfolding(rules::specs::Numbered::refusal_number, rules::specs::Own::own_write))]
 pub(crate) fn judge_write(c: Core, o: u32) -> Result<(), Refusal>
     ensures { outcome_number result ≡ own_write c o }
 {
-    if !is_offset(o) {
-        return Err(Refusal::NoRegister);
-    }
+    judge_read(o)?;
     if matches!(o, 0x10 | 0x14) {
         return Err(Refusal::ReadOnly);
     }
@@ -97,7 +100,7 @@ pub(crate) fn judge_write(c: Core, o: u32) -> Result<(), Refusal>
     Ok(())
 }
 
-// 4 of a read.
+// A read: no such register.
 #[tactic(auto, unfolding(rules::specs::Numbered::refusal_number))]
 pub(crate) fn judge_read(o: u32) -> Result<(), Refusal>
     ensures { outcome_number result ≡ cond (not (is_offset o)) 4 0 }
@@ -108,7 +111,7 @@ pub(crate) fn judge_read(o: u32) -> Result<(), Refusal>
     Ok(())
 }
 
-// 7 of a signal.
+// A signal: nothing runs that it could end.
 #[tactic(auto, unfolding(rules::specs::Numbered::refusal_number))]
 pub(crate) fn judge_signal(c: Core, x: Signal) -> Result<(), Refusal>
     ensures { outcome_number result ≡ cond (ends_nothing c x) 7 0 }
@@ -119,7 +122,7 @@ pub(crate) fn judge_signal(c: Core, x: Signal) -> Result<(), Refusal>
     Ok(())
 }
 
-// An event's own number, once 3 and 2 are passed.
+// An event's own refusals, once the record is sound and the memory long enough.
 #[tactic(auto, unfolding(rules::specs::Own::own_number))]
 pub(crate) fn judge_own(c: Core, e: Event) -> Result<(), Refusal>
     ensures { outcome_number result ≡ own_number c e }

@@ -1,28 +1,27 @@
 -- The bits of a field as the code takes them, and the number of a list of bits as it reckons that: bit by bit from the end.
-use Prim.Native.Nat.{ℕ, ◌+◌, ◌*◌, ◌/◌, ◌%◌, ◌^◌, ◌≤◌, ◌<◌}
+use Prim.Native.Nat.{ℕ, ◌+◌, ◌*◌, ◌/◌, ◌^◌, ◌≤◌, ◌<◌}
 use mathlib.Core.Path.{◌≡◌, refl, sym, ap, ◌∙◌}
 use mathlib.Core.Bool.{Bool, true, false}
 use mathlib.Core.List.{List, [], ◌∷◌, ◌++◌}
 use native.Mathlib.Nat.{div-one}
 use native.Mathlib.Omega.{arith}
 use mir.Val.{bool_byte}
-use lib.Dec.{eqb}
 use lib.ListN.{length}
 use lib.Pow.{pow_mono}
 use Rattle.std.proofs.lemmas.List.{append_assoc, append-nil, length-append}
-use Rattle.rules.specs.Bits.{bits_of, flag, number}
+use Rattle.rules.specs.Bits.{bit, bits_of, flag, number}
 use Rattle.rules.proofs.Readings.{flag_le}
 use Rattle.rules.proofs.Registers.{number_below}
 
 -- ---- The bits of a field
 
-pub bits_of_3 : (v : ℕ) → bits_of 3 v ≡ eqb (v % 2) 1 ∷ eqb (v / 2 % 2) 1 ∷ eqb (v / 4 % 2) 1 ∷ []
+pub bits_of_3 : (v : ℕ) → bits_of 3 v ≡ bit 0 v ∷ bit 1 v ∷ bit 2 v ∷ []
 unfolding bits_of
 bits_of_3 v =
     let e : v / 2 / 2 ≡ v / 4 = omega arith in
     rw (div-one (v / 2 / 2), div-one (v / 2), div-one v, e)
 
-pub bits_of_4 : (v : ℕ) → bits_of 4 v ≡ eqb (v % 2) 1 ∷ eqb (v / 2 % 2) 1 ∷ eqb (v / 4 % 2) 1 ∷ eqb (v / 8 % 2) 1 ∷ []
+pub bits_of_4 : (v : ℕ) → bits_of 4 v ≡ bit 0 v ∷ bit 1 v ∷ bit 2 v ∷ bit 3 v ∷ []
 unfolding bits_of
 bits_of_4 v =
     let d : v / 2 / 2 / 2 ≡ v / 8 = omega arith in

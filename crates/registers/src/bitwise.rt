@@ -5,7 +5,9 @@ ghost use Rattle.rules.specs.Registers.{read_at};
 ghost use Rattle.record.specs.Capped.{capped_board};
 
 use rules::Board;
-use status::{active_size, burst_ready, clock_ready, closed, is_empty, is_full, is_high, is_low};
+use status::{
+    active_size, bit, burst_ready, clock_ready, closed, is_empty, is_full, is_high, is_low,
+};
 
 // The number of a list of bits, D00 first.
 pub(crate) fn number_of(bits: &[bool]) -> u32
@@ -13,8 +15,8 @@ pub(crate) fn number_of(bits: &[bool]) -> u32
     ensures { result ≡ number bits.now }
 {
     let mut n = 0;
-    for &bit in bits.iter().rev() {
-        n = u32::from(bit) + 2 * n;
+    for &set in bits.iter().rev() {
+        n = u32::from(set) + 2 * n;
     }
     n
 }
@@ -34,9 +36,9 @@ pub(crate) fn read_control(b: Board) -> u32
         c.control.differential,
         c.control.barred,
         c.control.simultaneous,
-        s % 2 == 1,
-        s / 2 % 2 == 1,
-        s / 4 % 2 == 1,
+        bit(s, 0),
+        bit(s, 1),
+        bit(s, 2),
         b.request,
         false,
         c.calibration.running,
@@ -54,10 +56,10 @@ pub(crate) fn read_buffer(b: Board) -> u32
     let code = b.size.code;
     let size = active_size(b.size);
     number_of(&[
-        code % 2 == 1,
-        code / 2 % 2 == 1,
-        code / 4 % 2 == 1,
-        code / 8 % 2 == 1,
+        bit(code, 0),
+        bit(code, 1),
+        bit(code, 2),
+        bit(code, 3),
         c.mode.external,
         c.mode.enabled,
         clock_ready(c),

@@ -15,6 +15,10 @@ ghost use Rattle.record.specs.Capped.{capped};
 use record::depth_of;
 use rules::{Core, Event, Size};
 
+mod bits;
+
+pub use bits::bit;
+
 // 01: "closed = circular and not opened"
 pub fn closed(c: Core) -> bool
     ensures { Told (closed c) result }
@@ -62,14 +66,14 @@ pub fn is_empty(count: u32) -> bool
 pub fn is_low(size: u32, count: u32) -> bool
     ensures { Told (ltb (4 * count) size) result }
 {
-    4 * (count as u64) < size as u64
+    4 * u64::from(count) < u64::from(size)
 }
 
 // 02, 2026-06: "high quarter when 4·count is at least 3·size"
 pub fn is_high(size: u32, count: u32) -> bool
     ensures { Told (leb (3 * size) (4 * count)) result }
 {
-    3 * (size as u64) <= 4 * (count as u64)
+    3 * u64::from(size) <= 4 * u64::from(count)
 }
 
 // 01: "full at count ≥ size"
@@ -84,7 +88,7 @@ pub fn is_full(size: u32, count: u32) -> bool
 pub fn write_initialises(offset: u32, value: u32) -> bool
     ensures { Told (initialises (write offset value)) result }
 {
-    (offset == 0x00) & (value / 32768 % 2 == 1)
+    (offset == 0x00) & bit(value, 15)
 }
 
 // Power-up, or such a write.

@@ -1,10 +1,11 @@
 use Prim.Native.Nat.{ℕ}
 use mathlib.Core.Path.{◌≡◌, sym, ap, ◌∙◌}
-use mathlib.Core.Bool.{false, cond}
+use mathlib.Core.Bool.{Bool, false, cond}
 use mathlib.Core.List.{List}
 use native.Mathlib.Omega.{arith}
 use lib.ListN.{length}
 use Rattle.rules.specs.Bits.{bit, active_from}
+use Rattle.rules.specs.Clocks.{burst_after, load_after}
 use Rattle.channels.proofs.Ones.{channels_below}
 use Rattle.moves.specs.Ready.{fits}
 use Rattle.moves.specs.Deal.{dealing, deal_all}
@@ -55,9 +56,10 @@ returns c =
     let served : c.if-fits.served ≡ cond (fits a.x.ring a.d (length a.memory.now)) a.mask 0 =
     elim c.if-fits.branch [ then-fits w ↦ rw (sym c.fits.ensures, w.if-fits.true) w.served-is | else-fits w ↦ rw (sym c.fits.ensures, w.if-fits.false) w.served-is ] in
     let channels = c.into_iter-k-iterator.ensures.into_iter_gives ∙ c.of-k-items.ensures ∙ ap (active_from 0) served in
+    let marked = c.bit-ended.ensures.told in
     record {
       ended = bit 16 l.marks;
       dealt = end ∙ ap (λ (ks : List ℕ). deal_all a.binary a.again a.d ks (dealing a.levels.now a.x.ring false a.memory.now)) channels;
-      burst = c.burst_after.ensures;
-      load = c.load_after.ensures;
+      burst = c.burst_after.ensures ∙ ap (λ (t : Bool). burst_after t a.x.burst) marked;
+      load = c.load_after.ensures ∙ ap (λ (t : Bool). load_after t a.x.load) marked;
     }

@@ -1,5 +1,5 @@
 -- Each flag is set by the fate that has its number.
-use mathlib.Core.Path.{◌≡◌, refl, ◌∙◌}
+use mathlib.Core.Path.{◌≡◌, refl}
 use mathlib.Core.Bool.{◌||◌}
 use denote.Enum.Bare.{sameb}
 use lib.Dec.{eqb}

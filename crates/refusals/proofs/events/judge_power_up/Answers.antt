@@ -2,11 +2,7 @@
 use Prim.Native.Nat.{ℕ, min}
 use mathlib.Core.Path.{◌≡◌, sym, ap, ◌∙◌}
 use native.Mathlib.Nat.{min-eq_left}
-use native.Mathlib.Omega.{arith}
-use borrow.Author.Tests.{lt-ltb, le-ltb}
-use lib.ListN.{length}
 use Rattle.rules.specs.declared.Settings.{Settings}
-use Rattle.rules.specs.Numbered.{refusal_number}
 use Rattle.rules.specs.Record.{depth_of}
 use Rattle.rules.specs.Told.{Told}
 use Rattle.rules.specs.Refusals.{setting_refusal}
@@ -23,17 +19,9 @@ returns-in_err-judge_settings c =
 its_depth : (x : Settings) (r : ℕ) → setting_refusal x ≡ 0 → Told (depth_of (min x.fitted 15)) r → r ≡ depth_of x.fitted
 its_depth x r z p = p.told ∙ ap depth_of (min-eq_left (none_bad_in_range x z).fitted)
 
-pub returns-then-len-depth_of : goal.returns-then-len-depth_of
-unfolding refusal_number
-returns-then-len-depth_of c =
-    λ b m h.
-    let none = sym c.in_ok-judge_settings.ensures in
-    let d = its_depth c.args.x _ none c.depth_of.ensures in
-    rw (power_up_own _ _, none, lt-ltb (length m) (depth_of c.args.x.fitted) (omega (arith, h, c.if-len-depth_of.true, d)))
-
 pub returns : goal.returns
 returns c =
     λ b m h.
     let none = sym c.in_ok-judge_settings.ensures in
     let d = its_depth c.args.x _ none c.depth_of.ensures in
-    rw (power_up_own _ _, none, le-ltb (length m) (depth_of c.args.x.fitted) (omega (arith, h, c.if-len-depth_of.false, d)))
+    rw (power_up_own _ _, none, h, c.judge_memory.ensures, d)

@@ -1,10 +1,8 @@
 -- The depth is asked for only of a sound record, whose fitted code is in range.
 use Prim.Native.Nat.{ℕ}
-use mathlib.Core.Path.{◌≡◌}
-use mathlib.Core.Bool.{true}
-use native.Mathlib.Omega.{arith}
-use borrow.Author.Tests.{lt-ltb, le-ltb}
-use lib.ListN.{length}
+use mathlib.Core.Path.{◌≡◌, refl}
+use mathlib.Core.Bool.{Bool, true, false, cond}
+use lib.Dec.{eqb, ltb}
 use Rattle.rules.specs.declared.Board.{Board}
 use Rattle.rules.specs.Record.{depth, sound}
 use Rattle.rules.specs.Told.{Told}
@@ -23,17 +21,13 @@ returns-then-not-is_sound c = λ m h n. rw (told_false c.is_sound.ensures c.if-n
 its_depth : (b : Board) (r : ℕ) → sound b ≡ true → Told (depth (capped_board b)) r → r ≡ depth b
 its_depth b r s p = depth_told b r p ((sound_exactly _).0 s).fitted
 
-pub returns-then-len-depth : goal.returns-then-len-depth
-unfolding refusal_number
-returns-then-len-depth c =
-    λ m h n.
-    let is_so = told_true c.is_sound.ensures c.if-not-is_sound.false in
-    let d = its_depth c.args.b _ is_so c.depth.ensures in
-    rw (is_so, lt-ltb (length m) (depth c.args.b) (omega (arith, h, c.if-len-depth.true, d)))
+short_else : (t : Bool) (n : ℕ) → cond t 2 n ≡ cond (eqb (cond t 2 0) 0) n (cond t 2 0)
+short_else true n = refl
+short_else false n = refl
 
 pub returns : goal.returns
 returns c =
     λ m h n.
     let is_so = told_true c.is_sound.ensures c.if-not-is_sound.false in
     let d = its_depth c.args.b _ is_so c.depth.ensures in
-    rw (is_so, le-ltb (length m) (depth c.args.b) (omega (arith, h, c.if-len-depth.false, d)))
+    rw (is_so, h, c.judge_memory.ensures, d) (short_else (ltb c.args.len (depth c.args.b)) n)

@@ -2,5 +2,5 @@
 use Rattle.registers.proofs.BitNumbers.{Reckoned}
 use Rattle.registers.proofs.bitwise.number_of.Given as goal
 
-abbrev pub invariant-loop-bit : goal.invariant-loop-bit
-invariant-loop-bit l = Reckoned l.fn.bits l.bit-iterator.iter.rest.now l.n
+abbrev pub invariant-loop-set : goal.invariant-loop-set
+invariant-loop-set l = Reckoned l.fn.bits l.set-iterator.iter.rest.now l.n

@@ -15,5 +15,9 @@ returns c =
       c.closed.ensures.told,
       c.clock_ready.ensures.told,
       c.active_size-size.ensures.told,
+      c.bit.ensures.told,
+      c.bit-2.ensures.told,
+      c.bit-3.ensures.told,
+      c.bit-4.ensures.told,
       bits_of_4 c.args.b.size.code,
     )
