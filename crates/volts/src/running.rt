@@ -38,10 +38,7 @@ fn starts_afresh(e: Event, answer: Result<Done, Refusal>) -> bool
     ensures { result ≡ is_power_up e && eqb (answer_of answer).refusal 0 }
 {
     let accepted = answer.is_ok();
-    match e {
-        Event::PowerUp(_) => accepted,
-        _ => false,
-    }
+    matches!(e, Event::PowerUp(_)) && accepted
 }
 
 // 02: "Levels right after an accepted power-up and after each later event count": b is the record after an event. Before the first
