@@ -24,7 +24,10 @@ pub(crate) fn common_of(e: Event) -> Option<Common>
     ensures { IfSome result (λ x. e ≡ common_event x) }
 {
     match e {
-        Event::Write { offset: 24, value } => Some(Common::Load(value)),
+        Event::Write {
+            offset: 0x18,
+            value,
+        } => Some(Common::Load(value)),
         Event::Signal(Signal::Tick) => Some(Common::Tick),
         _ => None,
     }

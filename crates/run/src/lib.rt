@@ -3,8 +3,6 @@
 // crate `listing`, uses `next` and `step`. The law of all these loops is in specs/Way.antt.
 #![tactic(auto)]
 
-ghost use Rattle.rules.specs.Record.{unpowered};
-ghost use Rattle.rules.specs.Told.{Told};
 ghost use Rattle.rules.specs.ToldInNumbers.{ToldInNumbers};
 ghost use Rattle.run.specs.Promises.{Advances, Runs};
 ghost use Rattle.run.specs.Ahead.{ahead_of};
@@ -73,19 +71,12 @@ pub fn advance(s: &[u8], c: Cursor, b: Board, memory: &mut [u32]) -> Advanced
     }
 }
 
-// 01: "A run starts unpowered"
-fn start() -> Board
-    ensures { Told unpowered result }
-{
-    unpowered()
-}
-
 // 01: "A run starts unpowered and goes on past refused events and lost values. A file refusal stops it, and record and memory stay as
 // the earlier records left them."
 pub fn run(s: &[u8], memory: &mut [u32]) -> Ran
     ensures { Runs s.now memory.old result memory.new }
 {
-    let mut board = start();
+    let mut board = unpowered();
     let mut c = Cursor { place: 0 };
     loop {
         let a = advance(s, c, board, memory);

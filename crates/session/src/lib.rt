@@ -45,9 +45,13 @@ pub fn item_at(s: &[u8], at: usize) -> Item
     if let [0, 1, 4, ..] = rest {
         return Ok(Some((Event::Signal(Signal::Tick), at + 3)));
     }
-    if let [0, 6, 2, 24, a, b, c, d, ..] = rest {
+    if let [0, 6, 2, 0x18, a, b, c, d, ..] = rest {
         let value = u32::from_be_bytes([*a, *b, *c, *d]);
-        return Ok(Some((Event::Write { offset: 24, value }, at + 8)));
+        let load = Event::Write {
+            offset: 0x18,
+            value,
+        };
+        return Ok(Some((load, at + 8)));
     }
     any_at(s, at)
 }

@@ -27,14 +27,13 @@ pub(crate) fn file_end(s: &[u8]) -> Result<(), FileError>
 fn loses(answer: Result<Done, Refusal>) -> bool
     ensures { result ≡ eqb (answer_of answer).fate 2 }
 {
-    match answer {
-        Ok(done) => match done.fate {
-            Fate::LostToFull => true,
-            Fate::LostToClosed => false,
-            Fate::NoLoad | Fate::Stored => false,
-        },
-        Err(_) => false,
-    }
+    matches!(
+        answer,
+        Ok(Done {
+            fate: Fate::LostToFull,
+            ..
+        })
+    )
 }
 
 // One replay, to its end: whether nothing was lost to a full buffer.

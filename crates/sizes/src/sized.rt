@@ -5,19 +5,19 @@ ghost use Rattle.size_rules.specs.Coded.{sized};
 use rules::Event;
 
 // 02: "one size code put into every buffer operations write": D3..0 of each write to 0Ch
+#[tactic(auto, unfolding(size_rules::specs::Coded::sized))]
 pub(crate) fn sized(code: u32, e: Event) -> Event
     requires { code < 16 }
     ensures { result ≡ sized code e }
 {
     match e {
-        Event::Write { offset, value } => {
-            let value = if offset == 0x0C {
-                value / 16 * 16 + code
-            } else {
-                value
-            };
-            Event::Write { offset, value }
-        }
+        Event::Write {
+            offset: 0x0C,
+            value,
+        } => Event::Write {
+            offset: 0x0C,
+            value: value / 16 * 16 + code,
+        },
         _ => e,
     }
 }

@@ -4,7 +4,7 @@ use Rattle.volt_rules.specs.declared.Extremes.{Extremes}
 use Rattle.volts.specs.Numbered.{Table}
 use Rattle.volt_rules.specs.Table.{table_refusal, table_channels, table_memory}
 
--- volts(s, m) = r, and m is m' afterwards
+-- volts(s, m) answers what r is the numbers of (`table_of`), and m is m' afterwards
 pub record Tabled (s m : List ℕ) (r : Table) (m' : List ℕ) : Type 0 where
   pub refusal : r.refusal ≡ table_refusal s m
   pub channels : r.channels ≡ table_channels s m

@@ -27,7 +27,7 @@ pub(crate) fn volts_of(range: u32, level: u16) -> f32
     ensures { result ≡ volts_of range level }
 {
     let k = factor_of(range);
-    let n = level as u32;
+    let n = u32::from(level);
     let negative = n < 32768;
     if negative {
         return -share_of((32768 - n) * k);

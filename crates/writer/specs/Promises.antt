@@ -4,7 +4,8 @@ use Rattle.file_rules.specs.Writing.{write_refusal, end_place, output_after}
 use Rattle.cut_rules.specs.Cut.{Cut, cut_refusal, cut_end, cut_output}
 use Rattle.writer.specs.Written.{Written}
 
--- write(xs, out, place) = r, and out is out' afterwards; nergutsai_write(xs, out, place, end) answers r's refusal, and leaves its place in `end`
+-- write(xs, out, place) answers what r is the numbers of (`written_of`), and out is out' afterwards; nergutsai_write(xs, out, place, end)
+-- answers r's refusal, and leaves its place in `end`
 pub record Writes (xs out : List ℕ) (place : ℕ) (r : Written) (out' : List ℕ) : Type 0 where
   pub refusal : r.refusal ≡ write_refusal xs (length out) place
   pub place_after : r.place ≡ end_place xs (length out) place
@@ -15,7 +16,8 @@ abbrev pub cut_of : List ℕ → ℕ → ℕ → ℕ → ℕ → Cut
 cut_of recording channels first last mask =
     record { recording = recording; channels = channels; first = first; last = last; mask = mask }
 
--- cut(q, out, place) = r, and out is out' afterwards; nergutsai_cut(q, out, place, end) answers r's refusal, and leaves its place in `end`
+-- cut(q, out, place) answers what r is the numbers of (`written_of`), and out is out' afterwards; nergutsai_cut(q, out, place, end) answers
+-- r's refusal, and leaves its place in `end`
 pub record Cuts (q : Cut) (out : List ℕ) (place : ℕ) (r : Written) (out' : List ℕ) : Type 0 where
   pub refusal : r.refusal ≡ cut_refusal q (length out) place
   pub place_after : r.place ≡ cut_end q (length out) place

@@ -15,7 +15,7 @@ pub loop-after-init : goal.loop-after-init
 loop-after-init c =
     let a = c.args in
     let w = way_start Finish State Leaves a.s.now (start a.memory.now) in
-    let q = ap (λ (b : Board). state_of b a.memory.now) c.start-board.ensures.told in
+    let q = ap (λ (b : Board). state_of b a.memory.now) c.unpowered-board.ensures.told in
     (refl, subst (λ (st : State). Way Leaves a.s.now (start a.memory.now) st (record { place = 0 })) (sym q) w)
 
 pub loop-after-smaller : goal.loop-after-smaller

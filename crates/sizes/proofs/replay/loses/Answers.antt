@@ -1,5 +1,5 @@
-use mathlib.Core.Path.{refl}
+use borrow.Author.Rules.{rules}
 use Rattle.sizes.proofs.replay.loses.Goals as goal
 
-pub returns-in-LostToClosed : goal.returns-in-LostToClosed
-returns-in-LostToClosed c = rw (c.in-Ok.is, c.in-LostToClosed.is) refl
+pub returns-in-Ok-LostToFull : goal.returns-in-Ok-LostToFull
+returns-in-Ok-LostToFull c = rw c.in-Ok-LostToFull.is (search rules)

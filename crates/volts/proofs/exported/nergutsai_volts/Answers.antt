@@ -1,5 +1,6 @@
 use mathlib.Core.Path.{◌≡◌, refl, ap, ◌∙◌}
 use Rattle.std.specs.Prelude.{replicate}
+use borrow.Author.Rules.{rules}
 use lib.Ieee.{of_bits, binary32}
 use Rattle.volt_rules.specs.Laws.{zeros}
 use Rattle.volts.specs.Promises.{numbers_of}
@@ -13,4 +14,4 @@ all_zeros = refl
 pub returns-in-Err : goal.returns-in-Err
 returns-in-Err c =
     let t = c.in-Err.ensures in
-    record { refusal = c.from.ensures ∙ t.refusal; numbers = all_zeros ∙ ap numbers_of t.channels; memory = t.memory }
+    record { refusal = search rules; numbers = all_zeros ∙ ap numbers_of t.channels; memory = t.memory }

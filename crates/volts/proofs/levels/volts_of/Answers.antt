@@ -12,22 +12,22 @@ small : (n k range : ℕ) → n ≤ 32768 → k ≡ factor range → n * k ≤ 6
 small n k range h e = subst (λ (x : ℕ). n * x ≤ 655360) (sym e) (size_small n range h)
 
 pub overflow_mul-n : goal.overflow_mul-n
-overflow_mul-n c = omega (arith, small (32768 - c.args.level) _ _ (omega arith) c.factor_of-k.ensures)
+overflow_mul-n c = omega (arith, small (32768 - c.from-n.result) _ _ (omega arith) c.factor_of-k.ensures)
 
 pub share_of-requires : goal.share_of-requires
-share_of-requires c = omega (arith, small (32768 - c.args.level) _ _ (omega arith) c.factor_of-k.ensures)
+share_of-requires c = omega (arith, small (32768 - c.from-n.result) _ _ (omega arith) c.factor_of-k.ensures)
 
 pub returns-then-negative : goal.returns-then-negative
 unfolding volts_of
 returns-then-negative c =
-    rw (lt-ltb c.args.level 32768 (omega (arith, c.if-negative.true)), sym c.factor_of-k.ensures) (ap neg c.share_of.ensures)
+    rw (sym c.from-n.ensures, lt-ltb c.from-n.result 32768 (omega (arith, c.if-negative.true)), sym c.factor_of-k.ensures) (ap neg c.share_of.ensures)
 
 pub overflow_mul-n-2 : goal.overflow_mul-n-2
-overflow_mul-n-2 c = omega (arith, small (c.args.level - 32768) _ _ (omega arith) c.factor_of-k.ensures)
+overflow_mul-n-2 c = omega (arith, small (c.from-n.result - 32768) _ _ (omega arith) c.factor_of-k.ensures)
 
 pub share_of-requires-2 : goal.share_of-requires-2
-share_of-requires-2 c = omega (arith, small (c.args.level - 32768) _ _ (omega arith) c.factor_of-k.ensures)
+share_of-requires-2 c = omega (arith, small (c.from-n.result - 32768) _ _ (omega arith) c.factor_of-k.ensures)
 
 pub returns : goal.returns
 unfolding volts_of
-returns c = rw (le-ltb c.args.level 32768 (omega (arith, c.if-negative.false)), sym c.factor_of-k.ensures) c.share_of-2.ensures
+returns c = rw (sym c.from-n.ensures, le-ltb c.from-n.result 32768 (omega (arith, c.if-negative.false)), sym c.factor_of-k.ensures) c.share_of-2.ensures
