@@ -15,6 +15,8 @@ mod answered;
 mod pieces;
 mod whole;
 
+// Each function tests for room by itself: shared, the test would take a closure that is lent the output and promises the piece.
+
 // A text as it stands.
 pub fn put_text(out: &mut [u8], at: usize, text: &[u8]) -> usize
     ensures { Printed (length text.now) out.old at text.now out.new result }
@@ -36,6 +38,7 @@ pub fn put_line(out: &mut [u8], at: usize, number: u32, a: Answered, count: u32)
 }
 
 // The line of an event that was done and is no read: its refusal and its register are 0.
+// The fate is a number, as in `Answered`: the promise holds for every number, and a narrower type would ask more of callers.
 pub fn put_done(out: &mut [u8], at: usize, number: u32, moved: u32, fate: u32, count: u32) -> usize
     ensures { Printed 64 out.old at (line number (record { refusal = 0; register = 0; moved = moved; fate = fate }) count) out.new result }
 {
@@ -46,6 +49,7 @@ pub fn put_done(out: &mut [u8], at: usize, number: u32, moved: u32, fate: u32, c
 }
 
 // How a listing ends: the line of the file refusal n at the byte p, where n is not 0, and the levels.
+// n and p are numbers, 0 where there is no refusal: the promise holds for every two, and an enum or an Option would ask more of callers.
 pub fn put_tail(out: &mut [u8], at: usize, n: u32, p: u32, levels: [u16; 20]) -> usize
     ensures { Printed 134 out.old at (tail n p levels) out.new result }
 {

@@ -26,9 +26,9 @@ pub(crate) fn capital_of(d: u32) -> u8
     ensures { result ≡ capital d }
 {
     if d < 10 {
-        (48 + d) as u8
+        b'0' + d as u8
     } else {
-        (55 + d) as u8
+        b'A' - 10 + d as u8
     }
 }
 
@@ -37,7 +37,7 @@ pub(crate) fn put_digit(out: &mut [u8], at: usize, n: u32) -> usize
     requires { (at < length out.old) × (n < 10) }
     ensures { Piece out.old at (digit n ∷ []) out.new result }
 {
-    put_byte(out, at, (48 + n) as u8)
+    put_byte(out, at, b'0' + n as u8)
 }
 
 // A number of at most two digits, in two.

@@ -21,7 +21,7 @@ pub(crate) fn put_field(out: &mut [u8], at: usize, n: u32) -> usize
     requires { at + 11 ≤ length out.old }
     ensures { Piece out.old at (space ∷ decimal n) out.new result }
 {
-    let p = put_byte(out, at, 32);
+    let p = put_byte(out, at, b' ');
     put_decimal(out, p, n)
 }
 
@@ -33,7 +33,7 @@ pub(crate) fn put_rest(out: &mut [u8], at: usize, moved: u32, fate: u32, count: 
     let t = put_field(out, at, moved);
     let u = put_field(out, t, fate);
     let v = put_field(out, u, count);
-    put_byte(out, v, 10)
+    put_byte(out, v, b'\n')
 }
 
 // 01: "record number, the four answers, count after"
@@ -43,11 +43,13 @@ pub(crate) fn write_line(out: &mut [u8], at: usize, number: u32, a: Answered, co
 {
     let p = put_long(out, at, number);
     let q = put_field(out, p, a.refusal);
-    let r = put_byte(out, q, 32);
+    let r = put_byte(out, q, b' ');
     let s = put_register(out, r, a.register);
     put_rest(out, s, a.moved, a.fate, count)
 }
 
+// Beside `write_line` for speed: of most lines refusal and register are 0, here one text that is copied whole, without a test of either
+// (docs/PERFORMANCE.md, "Numbers without recursion").
 pub(crate) fn write_done(
     out: &mut [u8],
     at: usize,
@@ -71,10 +73,10 @@ pub(crate) fn write_levels(out: &mut [u8], at: usize, levels: [u16; 20]) -> usiz
 {
     let mut p = put_bytes(out, at, b"LEVELS");
     for level in levels {
-        p = put_byte(out, p, 32);
+        p = put_byte(out, p, b' ');
         p = put_hex(out, p, u32::from(level));
     }
-    put_byte(out, p, 10)
+    put_byte(out, p, b'\n')
 }
 
 // 01: "A file refusal prints `FILE n p`"
@@ -85,7 +87,7 @@ pub(crate) fn write_file(out: &mut [u8], at: usize, n: u32, p: u32) -> usize
     let a = put_bytes(out, at, b"FILE ");
     let b = put_decimal(out, a, n);
     let c = put_field(out, b, p);
-    put_byte(out, c, 10)
+    put_byte(out, c, b'\n')
 }
 
 // 01: "before LEVELS"

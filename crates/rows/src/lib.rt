@@ -31,10 +31,9 @@ pub struct WrongLength;
 pub fn put_board(b: Board, row: &mut [u32]) -> Result<(), WrongLength>
     ensures { Put b row.old result row.new }
 {
-    let other = row.len() != ROW_LONG;
-    if other {
+    let Some(row) = row.as_mut_array() else {
         return Err(WrongLength);
-    }
-    row.copy_from_slice(&row_of(b));
+    };
+    *row = row_of(b);
     Ok(())
 }

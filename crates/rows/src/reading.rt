@@ -16,6 +16,7 @@ fn level(x: u32) -> u16
     (x % 65536) as u16
 }
 
+// Tried `levels @ ..` in the pattern of `board_in`: the borrow checker does not cover a part of an array taken by value; a chunk is an Option.
 fn levels_at(row: &[u32; ROW_LONG]) -> [u16; LEVEL_COUNT]
     ensures { result ≡ levels_at row.now }
 {

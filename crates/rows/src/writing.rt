@@ -4,9 +4,9 @@ ghost use Rattle.rows.specs.Writing.{fields_row, board_row};
 
 use crate::places::{LEVEL_COUNT, LEVELS, ROW_LONG};
 use rules::Board;
-use std::array;
 
 // All of a row but its levels; a bool is 0 or 1.
+// `as u32` of a bool, and no `u32::from`: the proof would cite eighteen calls by name, where one line has all casts now.
 fn fields_of(b: Board) -> [u32; LEVELS]
     ensures { result ≡ fields_row b }
 {
@@ -53,7 +53,7 @@ fn fields_of(b: Board) -> [u32; LEVELS]
 fn wide(levels: [u16; LEVEL_COUNT]) -> [u32; LEVEL_COUNT]
     ensures { result ≡ levels }
 {
-    array::from_fn(|i| u32::from(levels[i]))
+    levels.map(u32::from)
 }
 
 pub(crate) fn row_of(b: Board) -> [u32; ROW_LONG]

@@ -6,14 +6,11 @@ ghost use Rattle.std.specs.Prelude.{◌≡◌};
 use crate::{Order, WriteRefusal, cut, write};
 
 // 02's number of an outcome, 0 where the session was written.
-#[tactic(auto, unfolding(crate::specs::Written::outcome_number, crate::specs::Written::refusal_number))]
+#[tactic(auto, unfolding(crate::specs::Written::outcome_number))]
 fn number_of(outcome: Result<usize, WriteRefusal>) -> u32
     ensures { result ≡ outcome_number outcome }
 {
-    match outcome {
-        Ok(_) => 0,
-        Err(why) => why as u32,
-    }
+    outcome.err().map_or(0, u32::from)
 }
 
 // A session of these rows, six numbers an event, in the output from a place on. Answers the refusal number, 0 where the session was

@@ -47,7 +47,7 @@ impl Order<'_> {
         requires { GoodOrder (order_of self.now) }
         ensures { result ≡ values_of self.now.first self.now.last self.now.mask }
     {
-        (self.last - self.first + 1) * u32::count_ones(self.mask) as usize
+        (self.last - self.first + 1) * self.mask.count_ones() as usize
     }
 
     // The numbers of the chosen groups.

@@ -1,5 +1,6 @@
 // Why a session is not written.
 ghost use Rattle.writer.specs.declared.refusal.WriteRefusal.TheVariants.{UnknownKind as unknown_kind};
+ghost use Rattle.writer.specs.Written.{refusal_number};
 ghost use Rattle.std.specs.Prelude.{◌≡◌};
 
 use kinds::UnknownKind;
@@ -50,5 +51,15 @@ impl From<UnknownKind> for WriteRefusal {
 
     fn from(_: UnknownKind) -> Self {
         Self::UnknownKind
+    }
+}
+
+// 02's number of a refusal.
+#[tactic(auto, unfolding(crate::specs::Written::refusal_number))]
+impl From<WriteRefusal> for u32 {
+    ghost from_gives = { λ why n. n ≡ refusal_number why };
+
+    fn from(why: WriteRefusal) -> u32 {
+        why as u32
     }
 }
