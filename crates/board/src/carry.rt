@@ -9,6 +9,7 @@ ghost use Rattle.moves.specs.Promises.{joined};
 ghost use Rattle.plans.specs.Parts.{carried, MovesOrStores};
 ghost use Rattle.rules.specs.Clocks.{fate_number};
 ghost use Rattle.board.specs.Parts.{lost_by};
+ghost use Rattle.rules.specs.declared.Fate.TheVariants.{NoLoad as none};
 
 use channels::serve;
 use moves::{Frame, Played, deal, load};
@@ -45,24 +46,26 @@ pub(crate) fn clocked(c: Core, cursor: u32, levels: [u16; 20], x: Frame) -> Core
     }
 }
 
+// Nothing moved and nothing was loaded.
+fn still(core: Core, ring: Ring) -> Played
+    ensures { result ≡ record { core = core; ring = ring; moved = 0; fate = none } }
+{
+    Played {
+        core,
+        ring,
+        moved: 0,
+        fate: Fate::NoLoad,
+    }
+}
+
 pub(crate) fn carry(p: Plan, size: Size, ring: Ring, d: u32, memory: &mut [u32]) -> Played
     requires { MovesOrStores p.act → Ready d ring memory.old × Sober p.core × (size.fitted ≤ 15) × (active_size size ≤ d) }
     ensures { Does d (carried p.act p.core (ring_values d ring memory.old) (is_full size ring.count)) ring memory.old result memory.new }
 {
     let core = p.core;
     match p.act {
-        Act::Nothing => Played {
-            core,
-            ring,
-            moved: 0,
-            fate: Fate::NoLoad,
-        },
-        Act::Empties => Played {
-            core,
-            ring: Ring::default(),
-            moved: 0,
-            fate: Fate::NoLoad,
-        },
+        Act::Nothing => still(core, ring),
+        Act::Empties => still(core, Ring::default()),
         Act::Clocks => {
             let s = serve(core, ring.count);
             let before = Frame {
@@ -81,19 +84,15 @@ pub(crate) fn carry(p: Plan, size: Size, ring: Ring, d: u32, memory: &mut [u32])
                 memory,
             );
             Played {
-                core: clocked(core, s.cursor, levels, x),
-                ring: x.ring,
                 moved: s.moved,
-                fate: Fate::NoLoad,
+                ..still(clocked(core, s.cursor, levels, x), x.ring)
             }
         }
         Act::Loads(v) => {
             let s = load(core, active_size(size), ring, d, v, memory);
             Played {
-                core: lost_by(s.fate, core),
-                ring: s.ring,
-                moved: 0,
                 fate: s.fate,
+                ..still(lost_by(s.fate, core), s.ring)
             }
         }
     }

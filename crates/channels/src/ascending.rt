@@ -24,7 +24,7 @@ impl Model for ActiveChannels {
 }
 
 impl ActiveChannels {
-    // Those of a mask, whose bits above channel 19 are none.
+    // Those of a mask: its bits 0 to 19; a bit above these is no channel's.
     pub fn of(mask: u32) -> Self
         ensures { result ≡ active_from 0 mask }
     {

@@ -30,19 +30,20 @@ pub struct Serving {
 pub fn serve(c: Core, count: u32) -> Serving
     ensures { Told (serving_of c count) result }
 {
+    let still = Serving {
+        mask: 0,
+        moved: 0,
+        cursor: c.outputs.cursor,
+        again: closed(c),
+    };
     let n = to_move(c, count);
     if n == 0 {
-        return Serving {
-            mask: 0,
-            moved: 0,
-            cursor: c.outputs.cursor,
-            again: closed(c),
-        };
+        return still;
     }
     Serving {
         mask: served(c),
         moved: n,
         cursor: cursor_after(c),
-        again: closed(c),
+        ..still
     }
 }

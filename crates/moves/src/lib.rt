@@ -41,11 +41,9 @@ pub struct Stored {
     pub ring: Ring,
 }
 
-// A value from the front of the ring to each channel of the mask, ascending, as far as there are any. The levels are lent and change in
-// place: handed on with each value they would be copied for each. Where the ring does not lie in the first d values of the memory,
-// nothing moves. Bit 16 of `marks` says whether a value carried EOF. The ring, the depth and the memory are no struct: `deal` and `load`
-// would have to make one at each clock and each load, and to take the ring out of it again. It is compiled into its callers: called, it
-// would take the levels and the ring by memory.
+// A value from the front of the ring to each channel of the mask, ascending, as far as there are any. Where the ring does not lie in the
+// first d values of the memory, nothing moves. The ring, the depth and the memory are no struct: one would be made at each clock and each
+// load, and the ring taken out of it again. Compiled into its callers: called, it would take the levels and the ring by memory.
 #[inline(always)]
 pub fn deal(
     mask: u32,
@@ -64,6 +62,7 @@ pub fn deal(
         0
     };
     let mut ring = x.ring;
+    // bit 16 is set once a value carried EOF
     let mut marks = 0;
     for k in ActiveChannels::of(served) {
         if ring.count == 0 {

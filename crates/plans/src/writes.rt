@@ -56,11 +56,9 @@ pub(crate) fn control_of(v: u32) -> Control
 pub(crate) fn burst_of(v: u32, x: Burst) -> Burst
     ensures { result ≡ burst_of v x }
 {
-    let bursts = bit(v, 0);
-    let starts = bit(v, 2) & !x.running;
-    if !bursts {
+    if !bit(v, 0) {
         Burst::default()
-    } else if starts {
+    } else if bit(v, 2) & !x.running {
         Burst {
             running: true,
             software: true,
@@ -83,8 +81,7 @@ pub(crate) fn cursor_of(was: bool, is: bool, n: u32) -> u32
 pub(crate) fn calibration_of(v: u32, x: Calibration) -> Calibration
     ensures { result ≡ calibration_of v x }
 {
-    let starts = bit(v, 13);
-    if starts {
+    if bit(v, 13) {
         Calibration {
             running: true,
             ..Calibration::default()
@@ -186,8 +183,11 @@ pub(crate) fn lost_of(v: u32, x: Lost) -> Lost
 pub(crate) fn load_kept(v: u32, x: Load) -> Load
     ensures { result ≡ load_kept v x }
 {
-    let kept = bit(v, 8) & !bit(v, 11);
-    if kept { x } else { Load::default() }
+    if bit(v, 8) & !bit(v, 11) {
+        x
+    } else {
+        Load::default()
+    }
 }
 
 // 01: "if circular and not opened, pending = D9"
@@ -195,8 +195,7 @@ pub(crate) fn load_kept(v: u32, x: Load) -> Load
 pub(crate) fn load_asked(v: u32, x: Load) -> Load
     ensures { result ≡ load_asked v x }
 {
-    let asked = bit(v, 8) & !x.opened;
-    if asked {
+    if bit(v, 8) & !x.opened {
         Load {
             pending: bit(v, 9),
             ..x

@@ -106,11 +106,10 @@ pub fn rate(b: Board) -> Result<Frequencies, Refusal>
     }
     let k = b.core.clock;
     let external = b.core.mode.external;
-    let undivided = k.divisor == 0;
     if external {
         return Err(Refusal::ExternalClock);
     }
-    if undivided {
+    if k.divisor == 0 {
         return Err(Refusal::DivisorZero);
     }
     Ok(Frequencies {

@@ -35,4 +35,4 @@ returns c =
     let h : t ≡ false = ne_eqb _ _ (λ e. c.if-n-eq0.false (c.to_move-n.ensures ∙ e)) in
     let mask = c.served.ensures ∙ sym (cond_false t 0 (served_by a.c) h) in
     let cursor = c.cursor_after.ensures ∙ sym (cond_false t a.c.outputs.cursor (cursor_after a.c) h) in
-    record { told = λ i. record { mask = mask i; moved = c.to_move-n.ensures i; cursor = cursor i; again = c.closed-2.ensures.told i } }
+    record { told = λ i. record { mask = mask i; moved = c.to_move-n.ensures i; cursor = cursor i; again = c.closed.ensures.told i } }

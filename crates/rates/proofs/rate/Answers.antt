@@ -41,10 +41,10 @@ unfolding refusal_number
 returns-then-external c =
     record { told = sym (nine c.args.b (told_true c.is_sound.ensures c.if-not-is_sound.false) c.if-external.true) }
 
-pub returns-then-undivided : goal.returns-then-undivided
+pub returns-then-k-eq0 : goal.returns-then-k-eq0
 unfolding refusal_number
-returns-then-undivided c =
-    record { told = sym (eight c.args.b (told_true c.is_sound.ensures c.if-not-is_sound.false) c.if-external.false c.if-undivided.true) }
+returns-then-k-eq0 c =
+    record { told = sym (eight c.args.b (told_true c.is_sound.ensures c.if-not-is_sound.false) c.if-external.false c.if-k-eq0.true) }
 
 pub whole_reference-requires : goal.whole_reference-requires
 whole_reference-requires c = ((sound_exactly _).0 (told_true c.is_sound.ensures c.if-not-is_sound.false)).nclk
@@ -57,5 +57,5 @@ returns c =
     let b = c.args.b in
     record {
       told = (λ i. record { refusal = 0; reference = c.whole_reference.ensures i; rate = c.sample_rate.ensures i })
-          ∙ sym (answered b (told_true c.is_sound.ensures c.if-not-is_sound.false) c.if-external.false c.if-undivided.false);
+          ∙ sym (answered b (told_true c.is_sound.ensures c.if-not-is_sound.false) c.if-external.false c.if-k-eq0.false);
     }
