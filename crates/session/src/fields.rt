@@ -1,5 +1,5 @@
 // The numbers and events in a file's bytes.
-ghost use Rattle.std.specs.Prelude.{◌+◌, ◌<◌, ◌≤◌, ◌≡◌, length};
+ghost use Rattle.std.specs.Prelude.{◌+◌, ◌<◌, ◌≤◌, ◌≡◌, length, take, drop};
 ghost use Rattle.file_rules.specs.File.{byte_at, word_at, quad_at, length_of, settings_at, event_at};
 ghost use Rattle.kinds.specs.Numbers.{kind_number};
 
@@ -13,18 +13,28 @@ pub(crate) fn byte_at(s: &[u8], at: usize) -> u32
     u32::from(s[at])
 }
 
+// The N bytes from a place on.
+fn bytes_at<const N: usize>(s: &[u8], at: usize) -> [u8; N]
+    requires { at + N ≤ length s.now }
+    ensures { result ≡ take N (drop at s.now) }
+{
+    let mut bytes = [0; N];
+    bytes.copy_from_slice(&s[at..at + N]);
+    bytes
+}
+
 pub(crate) fn word_at(s: &[u8], at: usize) -> u16
     requires { at + 2 ≤ length s.now }
     ensures { result ≡ word_at s.now at }
 {
-    u16::from_be_bytes([s[at], s[at + 1]])
+    u16::from_be_bytes(bytes_at(s, at))
 }
 
 pub(crate) fn quad_at(s: &[u8], at: usize) -> u32
     requires { at + 4 ≤ length s.now }
     ensures { result ≡ quad_at s.now at }
 {
-    u32::from_be_bytes([s[at], s[at + 1], s[at + 2], s[at + 3]])
+    u32::from_be_bytes(bytes_at(s, at))
 }
 
 pub(crate) fn settings_at(s: &[u8], at: usize) -> Settings
