@@ -1,7 +1,7 @@
 -- A call that is understood leaves what the step says; one that is not leaves all as it was.
 use Prim.Native.Nat.{ℕ}
 use mathlib.Core.Path.{◌≡◌, sym, ap, ◌∙◌}
-use mathlib.Core.Bool.{cond}
+use mathlib.Core.Bool.{cond, true, false}
 use mathlib.Core.List.{List}
 use borrow.Author.Tests.{eq-eqb, ne_eqb}
 use lib.Dec.{eqb}
@@ -9,6 +9,12 @@ use lib.ListN.{length}
 use Rattle.rules.specs.Step.{Outcome, step}
 use Rattle.rules.specs.Record.{state_of}
 use Rattle.rules.specs.Numbered.{answer_of}
+use Rattle.rules.specs.declared.Done.{Done}
+use Rattle.rules.specs.declared.Refusal.{Refusal}
+use Rattle.rules.proofs.Numbered.{not_done}
+use Rattle.std.proofs.Common.{Result, Ok, Err}
+use Rattle.std.specs.Result.{is_ok}
+use Rattle.std.proofs.lemmas.Bool.{false≢true}
 use Rattle.rules.specs.Told.{Told}
 use Rattle.board.specs.Promises.{Stepped}
 use Rattle.board.specs.declared.Reply.{Reply}
@@ -16,14 +22,19 @@ use Rattle.file_rules.specs.Row.{event_of_row}
 use Rattle.rows.specs.Places.{row_long}
 use Rattle.rows.specs.Reading.{board_at}
 use Rattle.rows.specs.Writing.{board_row}
-use Rattle.rows.specs.Promises.{told_of, row_written}
+use Rattle.rows.specs.Promises.{told_of}
 use Rattle.bridge.specs.Types.{Board, Event}
 use Rattle.bridge.specs.Calls.{Left, call_status, answer_row, left_by, left}
 use Rattle.bridge.specs.Promises.{Called}
 
-pub row_written_lem : (b : Board) (row : List ℕ) → length row ≡ row_long → row_written b row ≡ board_row b
-unfolding row_written
-row_written_lem b row long = rw (eq-eqb _ _ long)
+-- 01: "the given record comes back": the row of a refused event is as it was
+pub row_of_done : (a : Result Done Refusal) (done r r' : List ℕ) → is_ok a ≡ true → r' ≡ done → r' ≡ cond (eqb (answer_of a).refusal 0) done r
+row_of_done (Ok d) done r r' _ e = e
+row_of_done (Err why) done r r' k e = absurd (false≢true k)
+
+pub row_of_refused : (a : Result Done Refusal) (done r : List ℕ) → is_ok a ≡ false → r ≡ cond (eqb (answer_of a).refusal 0) done r
+row_of_refused (Ok d) done r k = absurd (false≢true (sym k))
+row_of_refused (Err why) done r _ = rw (not_done why)
 
 pub read_whole : (row : List ℕ) (b : Board) → length row ≡ row_long → Told (told_of row) b → b ≡ board_at row
 unfolding told_of

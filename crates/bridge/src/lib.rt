@@ -2,11 +2,6 @@
 // A slice is a pointer and then a length on their side (hosts/), and what is answered a number, since C has no Result.
 #![tactic(auto)]
 
-ghost use Rattle.std.specs.Prelude.{◌≡◌, true, cond, eqb, length};
-ghost use Rattle.std.specs.Result.{is_ok};
-ghost use Rattle.rules.specs.Numbered.{answer_of};
-ghost use Rattle.rows.specs.Places.{row_long};
-ghost use Rattle.rows.specs.Writing.{board_row};
 ghost use Rattle.bridge.specs.Misfits.{status_number};
 ghost use Rattle.bridge.specs.Promises.{Called, RateCalled};
 
@@ -15,25 +10,14 @@ use crate::misfit::{Misfit, status};
 use crate::numbers::{answer_row, figures_row};
 use board::step;
 use rates::rate;
-use rows::{ROW_LONG, WrongLength, board_at, put_board};
-use rules::{Board, Done, Refusal};
+use rows::{ROW_LONG, board_at, row_of};
 
 mod events;
 mod misfit;
 mod numbers;
 
 // 01: "the given record comes back": a refused event leaves the row alone, and does not write it anew.
-fn give_back(answer: Result<Done, Refusal>, b: Board, row: &mut [u32]) -> Result<(), WrongLength>
-    requires { length row.old ≡ row_long }
-    ensures told { is_ok result ≡ true }
-    ensures left { row.new ≡ cond (eqb (answer_of answer).refusal 0) (board_row b) row.old }
-{
-    match answer {
-        Ok(_) => put_board(b, row),
-        Err(_) => Ok(()),
-    }
-}
-
+// The lengths of answer and figures are tests of their own, no array types: a test of a wrong length is refused by numbers so.
 fn event_called(
     row: &mut [u32],
     memory: &mut [u32],
@@ -42,10 +26,9 @@ fn event_called(
 ) -> Result<(), Misfit>
     ensures { Called row.old memory.old event.now answer.old (status_number result) row.new memory.new answer.new }
 {
-    let other = row.len() != ROW_LONG;
-    if other {
+    let Some(row) = row.as_mut_array() else {
         return Err(Misfit::Record);
-    }
+    };
     let Some(numbers) = event.as_array() else {
         return Err(Misfit::Event);
     };
@@ -56,7 +39,10 @@ fn event_called(
     let event = row_event(numbers)?;
     let reply = step(board_at(row), memory, event);
     answer.copy_from_slice(&answer_row(reply.answer));
-    give_back(reply.answer, reply.board, row)?;
+    let done = reply.answer.is_ok();
+    if done {
+        *row = row_of(reply.board);
+    }
     Ok(())
 }
 

@@ -3,7 +3,6 @@ ghost use Rattle.std.specs.Prelude.{◌≡◌};
 ghost use Rattle.bridge.specs.Misfits.{status_number};
 
 use kinds::UnknownKind;
-use rows::WrongLength;
 
 #[derive(Clone, Copy, Debug, PartialEq, Eq)]
 pub(crate) enum Misfit {
@@ -11,16 +10,6 @@ pub(crate) enum Misfit {
     Event = 2,
     Room = 3,
     Kind = 4,
-}
-
-impl From<WrongLength> for Misfit {
-    ghost use Rattle.bridge.specs.declared.misfit.Misfit.{Misfit};
-
-    ghost from_gives = { λ _ why. why ≡ Misfit.Record };
-
-    fn from(_: WrongLength) -> Misfit {
-        Misfit::Record
-    }
 }
 
 impl From<UnknownKind> for Misfit {

@@ -6,7 +6,7 @@ ghost use Rattle.rows.specs.Promises.{told_of, Put};
 
 pub use crate::places::ROW_LONG;
 use crate::reading::board_in;
-use crate::writing::row_of;
+pub use crate::writing::row_of;
 use rules::Board;
 
 mod places;

@@ -1,5 +1,6 @@
 // A board record as a row: its fields in the order of their places, and the levels last.
 ghost use Rattle.std.specs.Prelude.{◌≡◌};
+ghost use Rattle.rules.specs.Told.{Told};
 ghost use Rattle.rows.specs.Writing.{fields_row, board_row};
 
 use crate::places::{LEVEL_COUNT, LEVELS, ROW_LONG};
@@ -56,8 +57,9 @@ fn wide(levels: [u16; LEVEL_COUNT]) -> [u32; LEVEL_COUNT]
     levels.map(u32::from)
 }
 
-pub(crate) fn row_of(b: Board) -> [u32; ROW_LONG]
-    ensures { result ≡ board_row b }
+// The row of a record; its levels stand last.
+pub fn row_of(b: Board) -> [u32; ROW_LONG]
+    ensures { Told (board_row b) result }
 {
     let mut row = [0; ROW_LONG];
     row[..LEVELS].copy_from_slice(&fields_of(b));

@@ -9,5 +9,7 @@ pub returns : goal.returns
 unfolding board_row
 returns c =
     let b = c.args.b in
-    rw (c.copy_from_slice-2.ensures.after, c.copy_from_slice.ensures.after, c.fields_of.ensures, c.wide.ensures)
-    (ap (λ (l : List ℕ). fields_row b ++ l) (append-nil b.core.outputs.levels))
+    record {
+      told = rw (c.copy_from_slice-2.ensures.after, c.copy_from_slice.ensures.after, c.fields_of.ensures, c.wide.ensures)
+          (ap (λ (l : List ℕ). fields_row b ++ l) (append-nil b.core.outputs.levels));
+    }
