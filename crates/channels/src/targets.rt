@@ -17,7 +17,8 @@ pub(crate) fn lowest_from(mask: u32, k: u32) -> Option<u32>
     if fitted { Some(at) } else { None }
 }
 
-// 01: "to the lowest active channel at or above the cursor, else to the lowest active one"
+// 01: "to the lowest active channel at or above the cursor, else to the lowest active one". The cursor's bound stands in each clause, and is
+// no type's: a record may have any cursor, and `serve` takes every record.
 pub(crate) fn next_channel(c: Core) -> u32
     requires { c.outputs.cursor ≤ 20 }
     ensures { (result ≡ next_channel c) × (result < 20) }

@@ -1,4 +1,4 @@
-// The checksum of a listing: CRC-32 as zlib and gzip have it, so that anyone can make the numbers anew.
+// The checksum of a listing: CRC-32 as zlib and gzip have it, so that anyone can make the numbers anew. The library has none.
 
 // A bit on, the lowest first: hence the polynomial from its other end.
 fn shift(sum: u32) -> u32 {

@@ -115,7 +115,7 @@ pub fn row_of(e: Event) -> [u32; 6]
     }
 }
 
-// 01's number of what is wrong with a file.
+// 01's number of what is wrong with a file. A function and no `From`, which would have to stand where `Fault` does, among definitions.
 #[tactic(auto, unfolding(file_rules::specs::File::fault_number))]
 pub fn fault_number(why: Fault) -> u32
     ensures { Told (fault_number why) result }

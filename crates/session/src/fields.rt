@@ -1,4 +1,5 @@
-// The numbers and events in a file's bytes.
+// The numbers and events in a file's bytes. Each is asked for by its place, which the record's length, tested once, keeps inside: a type of such
+// places would say what the clauses say, and be made anew for each field.
 ghost use Rattle.std.specs.Prelude.{◌+◌, ◌<◌, ◌≤◌, ◌≡◌, length, take, drop};
 ghost use Rattle.file_rules.specs.File.{byte_at, word_at, quad_at, length_of, settings_at, event_at};
 ghost use Rattle.kinds.specs.Numbers.{kind_number};

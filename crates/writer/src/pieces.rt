@@ -6,6 +6,7 @@ ghost use Rattle.file_rules.specs.Bytes.{bytes_of};
 ghost use Rattle.file_rules.specs.Pieces.{Piece};
 ghost use Rattle.writer.specs.Records.{record_of};
 
+// The like of `put_bytes` of `lines`, but of arrays, whose length the compiler knows.
 pub(crate) fn put<const N: usize>(out: &mut [u8], at: usize, bytes: [u8; N]) -> usize
     requires { at + N ≤ length out.old }
     ensures { Piece out.old at bytes.entry out.new result }
