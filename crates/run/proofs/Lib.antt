@@ -1,5 +1,6 @@
 -- What the functions' proofs cite, and those of other crates' loops: each file opens with what it shows.
 pub mod Ways
+pub mod Passing
 pub mod Advancing
 pub mod Leaves
 pub mod Numbers

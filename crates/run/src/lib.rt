@@ -15,6 +15,10 @@ use reader::read_at;
 use record::unpowered;
 use rules::{Board, Done, Event, Refusal};
 
+mod events;
+
+pub use events::Events;
+
 // How far a session has been read.
 #[derive(Clone, Copy)]
 pub struct Cursor {

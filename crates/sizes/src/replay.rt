@@ -10,15 +10,14 @@ use board::step;
 use file_rules::FileError;
 use record::unpowered;
 use rules::{Done, Fate, Refusal};
-use run::{Cursor, next};
+use run::{Cursor, Events, next};
 
 // How the file ends. 02: "10 to 13 first, with the memory untouched": nothing is played.
 pub(crate) fn file_end(s: &[u8]) -> Result<(), FileError>
     ensures { end_of result ≡ (session s.now).end }
 {
-    let mut c = Cursor { place: 0 };
-    while let Some((_, after)) = next(s, c)? {
-        c = after;
+    for found in Events::of(s) {
+        found?;
     }
     Ok(())
 }
