@@ -91,7 +91,7 @@ impl Kind {
     }
 }
 
-// The signal that a number says; one that says none counts as 9.
+// The signal that a number says; one that says none counts as 9. It has no caller here, and stays for its promise in docs/PROMISES.md.
 #[tactic(auto, unfolding(file_rules::specs::File::signal_of, file_rules::specs::File::length_of))]
 pub fn signal_of(number: u32) -> Signal
     ensures { Told (signal_of number) result }

@@ -118,7 +118,8 @@ pub(crate) fn put_small(out: &mut [u8], at: usize, n: u32) -> usize
 }
 
 // A number that mostly has more than one digit, four at a time: ten are two, four and four.
-// Tried: `itoa`, which prints into a buffer of its own to be copied from; a number takes three quarters of the time of a whole line so.
+// Tried: `itoa`, which prints into a buffer of its own to be copied from: a number alone takes three quarters of the time of a whole line so,
+// and misses the bar, which is the time of this form.
 pub(crate) fn put_long(out: &mut [u8], at: usize, n: u32) -> usize
     requires { at + 10 ≤ length out.old }
     ensures { Piece out.old at (decimal n) out.new result }
