@@ -58,8 +58,8 @@ fn still(core: Core, ring: Ring) -> Played
     }
 }
 
-// A clock and a load stand here, and once more in the loop of a listing (`at_once` of `listing`): one function of both, called from two places,
-// took up to a sixth more time.
+// A clock and a load stand here, and once more in the loop of a listing (`at_once` of `listing`): one function above `deal`, called from both,
+// was not worked into either (docs/PERFORMANCE.md, item 7).
 pub(crate) fn carry(p: Plan, size: Size, ring: Ring, d: u32, memory: &mut [u32]) -> Played
     requires { MovesOrStores p.act → Ready d ring memory.old × Sober p.core × (size.fitted ≤ 15) × (active_size size ≤ d) }
     ensures { Does d (carried p.act p.core (ring_values d ring memory.old) (is_full size ring.count)) ring memory.old result memory.new }

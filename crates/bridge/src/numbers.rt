@@ -1,4 +1,4 @@
-// The answers of the board, in numbers.
+// The answers of the board, in numbers, as hosts get them. (`Answered` of `lines` has the same four for a line: no crate of code is below both.)
 ghost use Rattle.std.specs.Prelude.{◌≡◌};
 ghost use Rattle.rules.specs.Numbered.{answer_of, figures_of};
 ghost use Rattle.bridge.specs.Calls.{answer_row, figures_row};

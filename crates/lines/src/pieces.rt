@@ -21,6 +21,7 @@ pub(crate) fn put_bytes(out: &mut [u8], at: usize, text: &[u8]) -> usize
     end
 }
 
+// By hand, as the decimal digits are (see `put_long`).
 pub(crate) fn capital_of(d: u32) -> u8
     requires { d < 16 }
     ensures { result ≡ capital d }

@@ -25,7 +25,8 @@ pub(crate) fn put_field(out: &mut [u8], at: usize, n: u32) -> usize
     put_decimal(out, p, n)
 }
 
-// What stands in a line after the register: how many values moved, the fate of a load, the count after.
+// What stands in a line after the register: how many values moved, the fate of a load, the count after. Fate, refusal and place are numbers
+// here and below, as in `put_done` and `put_tail`.
 pub(crate) fn put_rest(out: &mut [u8], at: usize, moved: u32, fate: u32, count: u32) -> usize
     requires { at + 34 ≤ length out.old }
     ensures { Piece out.old at (rest moved fate count) out.new result }

@@ -37,13 +37,14 @@ pub(crate) fn ready(b: Board, d: u32, ahead: Ahead) -> Option<(Common, Cursor)>
     }
 }
 
-// 01: "load fate (0 none, 1 stored, ..)"
+// 01: "load fate (0 none, 1 stored, ..)". A function and no `From`, which would have to stand in `rules`, among definitions.
 fn fate_number(fate: Fate) -> u32
     ensures { result ≡ fate_number fate }
 {
     fate as u32
 }
 
+// As far as these events go. The cursor goes on from here to `put_body` and back, so that no iterator holds it.
 pub(crate) fn hurry(s: &[u8], start: Reached, memory: &mut [u32], out: &mut [u8]) -> Reached
     requires { (length s.now ≤ 65536) × Fair s.now start.cursor (draft start memory.old out.old) }
     ensures { Walked s.now start.cursor (draft start memory.old out.old) result.cursor (draft result memory.new out.new) }

@@ -9,7 +9,7 @@ use rules::{
 };
 use std::array;
 
-// A level is taken modulo 10000h.
+// A level is taken modulo 10000h; `as u16` alone asks for a number that fits.
 fn level(x: u32) -> u16
     ensures { result ≡ x % level_span }
 {

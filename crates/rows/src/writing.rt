@@ -7,7 +7,7 @@ use crate::places::{LEVEL_COUNT, LEVELS, ROW_LONG};
 use rules::Board;
 
 // All of a row but its levels; a bool is 0 or 1.
-// `as u32` of a bool, and no `u32::from`: the proof would cite eighteen calls by name, where one line has all casts now.
+// `as u32` of a bool, and no `u32::from`: the proof would cite each call by name, where one line has all casts now.
 fn fields_of(b: Board) -> [u32; LEVELS]
     ensures { result ≡ fields_row b }
 {

@@ -33,6 +33,7 @@ fn show(rt: &HostRuntime, text: &[u8]) -> io::Result<()> {
     rt.write_all(b"=")?;
     rt.write_all(name)?;
     println!(rt)?;
+    // one that is longer is told to be too long
     let mut session = [0u8; 512];
     match decode(said, &mut session) {
         Ok(n) => {
@@ -57,6 +58,7 @@ fn work(rt: &HostRuntime, text: &[u8]) -> io::Result<()> {
 }
 
 fn main(rt: HostRuntime) -> io::Result<()> {
+    // fixed room: a longer text is cut, and so is what is printed of it
     let mut text = [0u8; 16384];
     let n = read_all(&mut rt.stdin(), &mut text)?;
     work(&rt, &text[..n])

@@ -69,7 +69,7 @@ fn start_all(range: u32, levels: [u16; 20]) -> [Extremes; 20]
     )
 }
 
-// The twenty channels, one after another.
+// The twenty channels, one after another: of two arrays, so `from_fn` by the place, since a `map` sees one.
 fn enter_all(channels: [Extremes; 20], range: u32, levels: [u16; 20]) -> [Extremes; 20]
     ensures { AllEntered channels range levels result }
 {

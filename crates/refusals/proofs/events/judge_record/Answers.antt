@@ -15,7 +15,9 @@ use Rattle.refusals.proofs.events.judge_record.Goals as goal
 
 pub returns-then-not-is_sound : goal.returns-then-not-is_sound
 unfolding refusal_number
-returns-then-not-is_sound c = λ m h n. rw (told_false c.is_sound.ensures c.if-not-is_sound.true)
+returns-then-not-is_sound c =
+    let unsound : sound c.args.b ≡ false = told_false c.is_sound.ensures c.if-not-is_sound.true in
+    λ m h n. rw unsound
 
 -- past the first test the record is sound, and what was told is its depth
 its_depth : (b : Board) (r : ℕ) → sound b ≡ true → Told (depth (capped_board b)) r → r ≡ depth b
