@@ -76,7 +76,7 @@ pub fn advance(s: &[u8], c: Cursor, b: Board, memory: &mut [u32]) -> Advanced
 }
 
 // 01: "A run starts unpowered and goes on past refused events and lost values. A file refusal stops it, and record and memory stay as
-// the earlier records left them."
+// the earlier records left them." It is `advance` again and again, so that what one record does stands once.
 pub fn run(s: &[u8], memory: &mut [u32]) -> Ran
     ensures { Runs s.now memory.old result memory.new }
 {
