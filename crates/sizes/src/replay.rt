@@ -10,7 +10,7 @@ use board::step;
 use file_rules::FileError;
 use record::unpowered;
 use rules::{Done, Fate, Refusal};
-use run::{Cursor, Events, next};
+use run::Events;
 
 // How the file ends. 02: "10 to 13 first, with the memory untouched": nothing is played.
 pub(crate) fn file_end(s: &[u8]) -> Result<(), FileError>
@@ -41,13 +41,14 @@ fn replay(s: &[u8], memory: &mut [u32], code: u32) -> bool
     ensures { ReplayTold s.now memory.old code result memory.new }
 {
     let mut b = unpowered();
-    let mut c = Cursor { place: 0 };
     let mut whole = true;
-    while let Ok(Some((e, after))) = next(s, c) {
+    for event in Events::of(s) {
+        let Ok(e) = event else {
+            break;
+        };
         let r = step(b, memory, sized(code, e));
         b = r.board;
         whole = whole & !loses(r.answer);
-        c = after;
     }
     whole
 }

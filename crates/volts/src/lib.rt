@@ -27,6 +27,7 @@ pub fn volts(s: &[u8], memory: &mut [u32]) -> Result<[Extremes; 20], VoltRefusal
         board: unpowered(),
         channels: None,
     };
+    // By `next`, tried over `Events`: 6 in 100 slower.
     let mut c = Cursor { place: 0 };
     while let Some((e, after)) = next(s, c)? {
         seen.observe(memory, e);
