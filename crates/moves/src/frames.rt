@@ -4,7 +4,8 @@ ghost use Rattle.rules.specs.Clocks.{coded, burst_after, load_after};
 
 use rules::{Burst, Load};
 
-// 01: "Offset binary makes the level equal the data; two's complement adds 8000h mod 10000h."
+// 01: "Offset binary makes the level equal the data; two's complement adds 8000h mod 10000h." The data are the low 16 bits: `as u16` alone
+// asks for a number that fits.
 #[tactic(auto, unfolding(rules::specs::Clocks::coded))]
 pub(crate) fn coded(binary: bool, v: u32) -> u16
     ensures { result ≡ coded binary v }

@@ -51,7 +51,7 @@ impl Plan {
     }
 }
 
-// The plan of an event that is not refused.
+// The plan of an event that is not refused. The options are taken one by one: a `From` would have to stand in `rules`, among definitions.
 #[tactic(auto, unfolding(crate::specs::Plan::planned))]
 pub fn plan_of(c: Core, e: Event) -> Plan
     ensures { Told (planned c e) result }
