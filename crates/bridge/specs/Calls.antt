@@ -1,7 +1,7 @@
 -- A call: a record as a row of 55 numbers, the sample memory, an event as a row of 6 (that of file_rules/specs/Row.antt), and room for an
 -- answer of 4.
 -- A rate question: a record as a row of 55 numbers, and room for 3 figures.
-use Rattle.std.specs.Prelude.{ℕ, ◌||◌, not, cond, List, [], ◌∷◌, eqb, ltb, length}
+use Rattle.std.specs.Prelude.{ℕ, Bool, ◌||◌, not, cond, List, [], ◌∷◌, eqb, ltb, length}
 use Rattle.rules.specs.Step.{Outcome, step}
 use Rattle.rules.specs.Rates.{rates}
 use Rattle.rules.specs.Record.{state_of}
@@ -11,6 +11,10 @@ use Rattle.rows.specs.Reading.{at, board_at}
 use Rattle.rows.specs.Writing.{board_row}
 use Rattle.bridge.specs.Types.{Answer, Figures}
 
+-- kinds of events are 1 to 9
+abbrev pub no_kind : ℕ → Bool
+no_kind n = ltb n 1 || ltb 9 n
+
 -- why a call is not understood, the first that holds: 1 the record, 2 the event, 3 the answer is of another length; 4 no such
 -- kind of event; 0 it is understood
 unfoldable pub call_status : ℕ → List ℕ → ℕ → ℕ
@@ -18,7 +22,7 @@ call_status row e answer =
     cond (not (eqb row row_long)) 1
     (cond (not (eqb (length e) 6)) 2
     (cond (not (eqb answer 4)) 3
-    (cond (ltb (at e 0) 1 || ltb 9 (at e 0)) 4 0)))
+    (cond (no_kind (at e 0)) 4 0)))
 
 abbrev pub answer_row : Answer → List ℕ
 answer_row a = a.refusal ∷ a.register ∷ a.moved ∷ a.fate ∷ []

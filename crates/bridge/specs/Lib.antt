@@ -1,5 +1,5 @@
 pub mod Types
-pub mod Misfits
 pub mod Calls
+pub mod Misfits
 pub mod Promises
 pub mod Unique

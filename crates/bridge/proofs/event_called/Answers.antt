@@ -12,7 +12,8 @@ use Rattle.file_rules.specs.Row.{event_of_row}
 use Rattle.rules.specs.Told.{Told}
 use Rattle.rows.specs.Reading.{at}
 use Rattle.rows.specs.Promises.{told_of}
-use Rattle.bridge.specs.Misfits.{status_number, no_kind}
+use Rattle.bridge.specs.Misfits.{status_number}
+use Rattle.bridge.specs.Calls.{no_kind}
 use Rattle.bridge.specs.Calls.{call_status}
 use Rattle.bridge.proofs.Calls.{not_understood, understood, row_of_done, row_of_refused}
 use Rattle.bridge.proofs.event_called.Goals as goal

@@ -10,7 +10,7 @@ use Rattle.file_rules.specs.File.{length_of}
 use Rattle.kinds.specs.declared.Kind.{Kind}
 use Rattle.kinds.specs.declared.Kind.TheVariants.{PowerUp, Write, Read, Signal}
 use Rattle.kinds.specs.Numbers.{kind_number}
-use Rattle.bridge.specs.Misfits.{no_kind}
+use Rattle.bridge.specs.Calls.{no_kind}
 use Rattle.bridge.proofs.events.row_event.Goals as goal
 
 unknown : (n : ℕ) → length_of n ≡ 0 → no_kind n ≡ true
