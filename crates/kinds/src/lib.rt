@@ -37,12 +37,7 @@ impl TryFrom<u32> for Kind {
             1 => Ok(Kind::PowerUp),
             2 => Ok(Kind::Write),
             3 => Ok(Kind::Read),
-            4 => Ok(Kind::Signal(Signal::Tick)),
-            5 => Ok(Kind::Signal(Signal::Outside)),
-            6 => Ok(Kind::Signal(Signal::Trigger)),
-            7 => Ok(Kind::Signal(Signal::Passed)),
-            8 => Ok(Kind::Signal(Signal::Failed)),
-            9 => Ok(Kind::Signal(Signal::Settled)),
+            4..=9 => Ok(Kind::Signal(signal_of(number))),
             _ => Err(UnknownKind),
         }
     }
@@ -91,13 +86,17 @@ impl Kind {
     }
 }
 
-// The signal that a number says; one that says none counts as 9. It has no caller here, and stays for its promise in docs/PROMISES.md.
-#[tactic(auto, unfolding(file_rules::specs::File::signal_of, file_rules::specs::File::length_of))]
+// 01: "4 tick, 5 outside clock, 6 trigger, 7 calibration passed, 8 failed, 9 settled"; any other number counts as 9.
+#[tactic(auto, unfolding(file_rules::specs::File::signal_of))]
 pub fn signal_of(number: u32) -> Signal
     ensures { Told (signal_of number) result }
 {
-    match Kind::try_from(number) {
-        Ok(Kind::Signal(s)) => s,
+    match number {
+        4 => Signal::Tick,
+        5 => Signal::Outside,
+        6 => Signal::Trigger,
+        7 => Signal::Passed,
+        8 => Signal::Failed,
         _ => Signal::Settled,
     }
 }
