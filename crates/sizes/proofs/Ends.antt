@@ -1,35 +1,28 @@
--- The loop that only reads: the items that are left end as the file does.
+-- The loop that only reads: what it makes of a session is its end.
+use Prim.Native.Nat.{ℕ}
 use mathlib.Core.Path.{◌≡◌, refl}
-use mathlib.Core.List.{List, [], ◌∷◌}
-use Rattle.std.specs.Prelude.{Result, Ok, Err}
+use mathlib.Core.List.{List}
 use Rattle.rules.specs.declared.Event.{Event}
-use Rattle.file_rules.specs.declared.FileError.{FileError}
-use Rattle.file_rules.specs.Item.{End, File, Refused}
-use Rattle.file_rules.specs.File.{Session}
-use Rattle.run.specs.Items.{met, items_of}
+use Rattle.file_rules.specs.Item.{End}
+use Rattle.file_rules.specs.File.{Session, session}
+use Rattle.run.specs.declared.Cursor.{Cursor}
+use Rattle.run.specs.Ahead.{Found, Over}
+use Rattle.run.specs.Run.{found}
+use Rattle.run.specs.Way.{Way}
+use Rattle.run.proofs.Ways.{way_start, way_on, way_over}
 
-pub told_end : List (Result Event FileError) → End
-told_end [] = File
-told_end (Ok e ∷ xs) = told_end xs
-told_end (Err x ∷ xs) = Refused x.fault x.place
+abbrev EndsSo : End → Unit {0} → Session → Type 0
+EndsSo o a x = o ≡ x.end
 
-met_end : (es : List Event) (x : End) → told_end (met es x) ≡ x
-unfolding met told_end
-met_end [] File = refl
-met_end [] (Refused why p) = refl
-met_end (e ∷ es) x = met_end es x
+-- it stands at the cursor c of the file s
+abbrev pub Reading : List ℕ → Cursor → Type 0
+Reading s c = Way EndsSo s tt tt c
 
-pub session_end : (x : Session) → told_end (items_of x) ≡ x.end
-session_end x = met_end x.events x.end
+pub reading_start : (s : List ℕ) → Reading s (record { place = 0 })
+reading_start s = way_start End (Unit {0}) EndsSo s tt
 
-pub end_on : (e : Event) (xs : List (Result Event FileError)) → told_end (Ok e ∷ xs) ≡ told_end xs
-unfolding told_end
-end_on e xs = refl
+pub reading_on : (s : List ℕ) (c after : Cursor) (e : Event) → Reading s c → found s c ≡ Found e after → Reading s after
+reading_on s c after e r f = way_on End (Unit {0}) EndsSo s tt tt tt c after e r f (λ o x h. h)
 
-pub end_refused : (x : FileError) (xs : List (Result Event FileError)) → told_end (Err x ∷ xs) ≡ Refused x.fault x.place
-unfolding told_end
-end_refused x xs = refl
-
-pub end_over : told_end [] ≡ File
-unfolding told_end
-end_over = refl
+pub reading_over : (s : List ℕ) (c : Cursor) (end : End) → Reading s c → found s c ≡ Over end → end ≡ (session s).end
+reading_over s c end r f = way_over End (Unit {0}) EndsSo s tt tt c end end r f refl

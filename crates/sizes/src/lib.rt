@@ -1,5 +1,5 @@
-// The smallest size that plays a session (02, 2026-05). A size code has to go into each event before it is played: so the loop goes
-// over `run::Events` by `board::step`.
+// The smallest size that plays a session (02, 2026-05). A size code has to go into each event before it is played: so the loop goes by
+// `run::next` and `board::step`.
 #![tactic(auto)]
 
 ghost use Rattle.sizes.specs.Numbered.{smallest_of};

@@ -4,6 +4,7 @@ ghost use Rattle.sizes.specs.Numbered.{size_refusal_number};
 ghost use Rattle.sizes.specs.declared.refusal.SizeRefusal.TheVariants.{File};
 
 use file_rules::{Fault, FileError};
+use kinds::fault_number;
 
 // Not one type with that of a table of volts: each has a refusal that the other never gives.
 #[derive(Clone, Copy, Debug, PartialEq, Eq)]
@@ -28,7 +29,7 @@ impl From<SizeRefusal> for u32 {
 
     fn from(why: SizeRefusal) -> u32 {
         match why {
-            SizeRefusal::File(fault) => fault as u32,
+            SizeRefusal::File(fault) => fault_number(fault),
             SizeRefusal::NonePlays => 19,
         }
     }

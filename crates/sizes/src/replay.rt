@@ -1,4 +1,5 @@
-// The replays of a session, one code after another, and the look for what is wrong with its file.
+// The replays of a session, one code after another, and the look for what is wrong with its file. The loops hold a cursor, as every loop
+// over a session: their law is that of specs/Way.antt of `run`.
 ghost use Rattle.std.specs.Prelude.{◌<◌, ◌≡◌, eqb};
 ghost use Rattle.rules.specs.Numbered.{answer_of};
 ghost use Rattle.file_rules.specs.Item.{end_of};
@@ -10,14 +11,15 @@ use board::step;
 use file_rules::FileError;
 use record::unpowered;
 use rules::{Done, Fate, Refusal};
-use run::Events;
+use run::{Cursor, next};
 
 // How the file ends. 02: "10 to 13 first, with the memory untouched": nothing is played.
 pub(crate) fn file_end(s: &[u8]) -> Result<(), FileError>
     ensures { end_of result ≡ (session s.now).end }
 {
-    for found in Events::of(s) {
-        found?;
+    let mut c = Cursor { place: 0 };
+    while let Some((_, after)) = next(s, c)? {
+        c = after;
     }
     Ok(())
 }
@@ -41,14 +43,13 @@ fn replay(s: &[u8], memory: &mut [u32], code: u32) -> bool
     ensures { ReplayTold s.now memory.old code result memory.new }
 {
     let mut b = unpowered();
+    let mut c = Cursor { place: 0 };
     let mut whole = true;
-    for event in Events::of(s) {
-        let Ok(e) = event else {
-            break;
-        };
+    while let Ok(Some((e, after))) = next(s, c) {
         let r = step(b, memory, sized(code, e));
         b = r.board;
         whole = whole & !loses(r.answer);
+        c = after;
     }
     whole
 }

@@ -1,6 +1,6 @@
 -- What the functions' proofs cite; each file opens with what it shows.
 pub mod Shares
-pub mod Calls
+pub mod Entries
 pub mod Watching
 pub mod Tabling
 pub mod OneRange

@@ -1,13 +1,13 @@
--- What `volts` makes of a session: the memory that its events leave, what counts, and how it ends. The loop is on its way (specs/Way.antt
--- of `run`) with the state and with what counted so far, whose table it holds.
+-- What `observe_all` makes of a session: the memory that its events leave, what counts, and how it ends. The loop is on its way
+-- (specs/Way.antt of `run`) with the state and with what counted so far, whose table it holds.
 use Prim.Native.Nat.{ℕ}
 use mathlib.Core.Path.{◌≡◌, refl, sym, ap, subst, ◌∙◌}
-use mathlib.Core.Bool.{true≢false}
+use mathlib.Core.Bool.{Bool, false, true≢false}
 use mathlib.Core.List.{List, [], ◌∷◌}
 use native.Mathlib.Omega.{arith}
 use borrow.Author.Tests.{eq-eqb}
 use lib.ListN.{length}
-use Rattle.std.specs.Prelude.{Option, None, Err, ok_or}
+use Rattle.std.specs.Prelude.{Option, Some, None, Err, ok_or, cond}
 use Rattle.rules.specs.declared.Event.{Event}
 use Rattle.rules.specs.declared.Board.{Board}
 use Rattle.rules.specs.Record.{State, state_of, unpowered}
@@ -28,7 +28,7 @@ use Rattle.volt_rules.proofs.Tables.{fault_some, file_refused, file_ended, table
 use Rattle.volts.specs.declared.refusal.VoltRefusal.TheVariants.{File as bad_file, NoPowerUp}
 use Rattle.volts.specs.declared.running.Observed.{Observed}
 use Rattle.volts.specs.Numbered.{Table, volt_refusal_number, table_of}
-use Rattle.volts.specs.Watching.{seen_from, seen_of}
+use Rattle.volts.specs.Watching.{held, seen_from, seen_of}
 use Rattle.volts.specs.Observing.{Observes}
 use Rattle.volts.specs.Promises.{Tabled}
 use Rattle.volts.proofs.OneRange.{Suits, start_suits, range_kept, suits_on}
@@ -98,16 +98,16 @@ OnWay s m a c = Way Counts s (tally_of unpowered m nothing_counted) a c
 pub record Running (s m memory : List ℕ) (o : Observed) (c : Cursor) : Type 0 where
   pub long : length memory ≡ length m
   pub seen : Counted
-  pub channels : o.channels ≡ seen_of seen
+  pub channels : held o ≡ seen_of seen
   pub suits : Suits seen o.board
   pub way : OnWay s m (tally_of o.board memory seen) c
 
-pub running_start : (s m : List ℕ) (b : Board) → b ≡ unpowered → Running s m m (record { board = b; channels = None }) (record { place = 0 })
-running_start s m b e =
+pub running_start : (s m : List ℕ) (o : Observed) → o.board ≡ unpowered → o.counts ≡ false → Running s m m o (record { place = 0 })
+running_start s m o e n =
     record {
       long = refl;
       seen = nothing_counted;
-      channels = refl;
+      channels = ap (λ (t : Bool). cond t (Some o.channels) None) n;
       suits = subst (Suits nothing_counted) (sym e) (start_suits m);
       way = subst (λ (x : Board). OnWay s m (tally_of x m nothing_counted) (record { place = 0 })) (sym e) (way_start Total Tally Counts s (tally_of unpowered m nothing_counted));
     }
@@ -142,11 +142,13 @@ module _ {s m memory : List ℕ} {o : Observed} {c : Cursor} (r : Running s m me
       let a = file_answered s m why p (sym t.end) in
       record { refusal = a.0; channels = a.1; memory = ap (λ (y : State). y.memory) t.state }
 
-  pub running_over : found s c ≡ Over File → Tabled s m (table_of (ok_or o.channels NoPowerUp)) memory
+  -- t says whether anything counted
+  pub running_over : (t : Bool) → o.counts ≡ t → found s c ≡ Over File → Tabled s m (table_of (ok_or (cond t (Some o.channels) None) NoPowerUp)) memory
   unfolding here counted_in
-  running_over f =
-      let t = total File f in
-      let a = answered s m (sym t.end) in
-      let e : o.channels ≡ seen_of (counted_in s m) = r.channels ∙ ap seen_of t.seen in
-      subst (λ (x : Option (List Extremes)). Tabled s m (table_of (ok_or x NoPowerUp)) memory) (sym e)
-      (record { refusal = a.0; channels = a.1; memory = ap (λ (y : State). y.memory) t.state })
+  running_over t h f =
+      let x = total File f in
+      let a = answered s m (sym x.end) in
+      let known = ap (λ (u : Bool). cond u (Some o.channels) None) h in
+      let e = sym known ∙ r.channels ∙ ap seen_of x.seen in
+      subst (λ (y : Option (List Extremes)). Tabled s m (table_of (ok_or y NoPowerUp)) memory) (sym e)
+      (record { refusal = a.0; channels = a.1; memory = ap (λ (y : State). y.memory) x.state })

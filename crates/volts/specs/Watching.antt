@@ -1,4 +1,5 @@
 -- A table as the loop holds it, and what an event makes of it.
+--   held o                 the channels that the loop holds, where they count
 --   seen_of w              the three numbers of each channel, of what counted so far; none where nothing did
 --   watched fresh b w      what counts when an event has left b; `fresh` says that it is an accepted power-up
 --   at_once v, entered x v a channel's three numbers, when it has the volts v: right after an accepted power-up, and later
@@ -10,6 +11,7 @@ use Rattle.volt_rules.specs.Volts.{volts_of}
 use Rattle.volt_rules.specs.Counting.{Counted, freshly, also}
 use Rattle.volt_rules.specs.Extremes.{lesser, greater}
 use Rattle.volt_rules.specs.Table.{channels_of, power_refusal}
+use Rattle.volts.specs.declared.running.Observed.{Observed}
 
 -- what the checker takes for an element past the end
 abbrev pub no_channel : Extremes
@@ -30,6 +32,9 @@ pub record AllStarted (range : ℕ) (levels : List ℕ) (r : List Extremes) : Ty
 pub record AllEntered (ts : List Extremes) (range : ℕ) (levels : List ℕ) (r : List Extremes) : Type 0 where
   pub twenty : length r ≡ 20
   pub each : (k : ℕ) → k < 20 → get_or r k no_channel ≡ entered (get_or ts k no_channel) (volts_of range (get_or levels k 0))
+
+abbrev pub held : Observed → Option (List Extremes)
+held o = cond o.counts (Some o.channels) None
 
 abbrev pub seen_from : ℕ → List (List ℕ) → Option (List Extremes)
 seen_from r [] = None

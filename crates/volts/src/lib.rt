@@ -6,8 +6,6 @@ ghost use Rattle.volts.specs.Numbered.{table_of};
 ghost use Rattle.volts.specs.Promises.{Tabled};
 
 use crate::running::Observed;
-use record::unpowered;
-use run::{Cursor, next};
 use volt_rules::Extremes;
 
 mod channel;
@@ -23,15 +21,7 @@ pub use refusal::VoltRefusal;
 pub fn volts(s: &[u8], memory: &mut [u32]) -> Result<[Extremes; 20], VoltRefusal>
     ensures { Tabled s.now memory.old (table_of result) memory.new }
 {
-    let mut seen = Observed {
-        board: unpowered(),
-        channels: None,
-    };
-    // By `next`, tried over `Events`: 6 in 100 slower.
-    let mut c = Cursor { place: 0 };
-    while let Some((e, after)) = next(s, c)? {
-        seen.observe(memory, e);
-        c = after;
-    }
-    seen.channels.ok_or(VoltRefusal::NoPowerUp)
+    let mut seen = Observed::new();
+    seen.observe_all(s, memory)?;
+    Ok(seen.channels)
 }

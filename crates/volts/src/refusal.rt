@@ -4,6 +4,7 @@ ghost use Rattle.volts.specs.Numbered.{volt_refusal_number};
 ghost use Rattle.volts.specs.declared.refusal.VoltRefusal.TheVariants.{File};
 
 use file_rules::{Fault, FileError};
+use kinds::fault_number;
 
 #[derive(Clone, Copy, Debug, PartialEq, Eq)]
 pub enum VoltRefusal {
@@ -27,7 +28,7 @@ impl From<VoltRefusal> for u32 {
 
     fn from(why: VoltRefusal) -> u32 {
         match why {
-            VoltRefusal::File(fault) => fault as u32,
+            VoltRefusal::File(fault) => fault_number(fault),
             VoltRefusal::NoPowerUp => 18,
         }
     }

@@ -1,34 +1,89 @@
-// A session as it runs, with the table of the levels that counted so far.
-ghost use Rattle.std.specs.Prelude.{◌≡◌, ◌<◌, ◌&&◌, eqb, get_or};
+// A session as it runs, with the table of the levels that counted so far. The channels are changed where they lie: by value each event
+// copied their 240 bytes by calls of `memcpy`, and a session of power-ups took twice the time.
+ghost use Rattle.std.specs.Prelude.{◌≡◌, ◌&&◌, eqb, false};
 ghost use Rattle.rules.specs.Numbered.{answer_of};
+ghost use Rattle.rules.specs.Record.{unpowered};
 ghost use Rattle.volt_rules.specs.Counting.{is_power_up};
-ghost use Rattle.volt_rules.specs.Volts.{volts_of};
-ghost use Rattle.volts.specs.Observing.{Observes};
-ghost use Rattle.volts.specs.Watching.{no_channel, at_once, entered, AllStarted, AllEntered, Watched};
+ghost use Rattle.volts.specs.Numbered.{table_of};
+ghost use Rattle.volts.specs.Observing.{Observes, with_channels};
+ghost use Rattle.volts.specs.Promises.{Tabled};
+ghost use Rattle.volts.specs.Watching.{held, AllStarted, AllEntered, Watched};
 
 use crate::channel::{at_once, entered};
 use crate::levels::volts_of;
+use crate::refusal::VoltRefusal;
 use board::step;
+use record::unpowered;
 use rules::{Board, Done, Event, Refusal};
-use std::array::from_fn;
+use run::{Cursor, next};
 use volt_rules::Extremes;
 
-// The board after an event, and the three numbers of each channel: none until a power-up is accepted.
+// The board after an event, and the three numbers of each channel, which count from the first accepted power-up on.
 #[derive(Clone, Copy)]
 pub(crate) struct Observed {
-    pub(crate) board: Board,
-    pub(crate) channels: Option<[Extremes; 20]>,
+    board: Board,
+    counts: bool,
+    pub(crate) channels: [Extremes; 20],
 }
 
 impl Observed {
+    // Before the first event. What the channels hold does not count yet, and is no zero: with the zeros of the board LLVM would clear it by
+    // a call of `memset`, which the archive takes from outside.
+    pub(crate) fn new() -> Observed
+        ensures off { result.board ≡ unpowered }
+        ensures empty { result.counts ≡ false }
+    {
+        Observed {
+            board: unpowered(),
+            counts: false,
+            channels: [at_once(f32::NAN); 20],
+        }
+    }
+
+    // All events of a session file, from a new one on: then the channels are its table, or the answer is why there is none.
+    pub(crate) fn observe_all(&mut self, s: &[u8], memory: &mut [u32]) -> Result<(), VoltRefusal>
+        requires off { self.old.board ≡ unpowered }
+        requires empty { self.old.counts ≡ false }
+        ensures { Tabled s.now memory.old (table_of (with_channels result self.new.channels)) memory.new }
+    {
+        // By `next`, tried over `Events`: 6 in 100 slower.
+        let mut c = Cursor { place: 0 };
+        while let Some((e, after)) = next(s, c)? {
+            self.observe(memory, e);
+            c = after;
+        }
+        if self.counts {
+            Ok(())
+        } else {
+            Err(VoltRefusal::NoPowerUp)
+        }
+    }
+
     // One event on the board and its sample memory: the levels that it leaves are entered in the table.
-    pub(crate) fn observe(&mut self, memory: &mut [u32], e: Event)
+    fn observe(&mut self, memory: &mut [u32], e: Event)
         ensures { Observes self.old memory.old e self.new memory.new }
     {
         let r = step(self.board, memory, e);
         self.board = r.board;
-        let fresh = starts_afresh(e, r.answer);
-        watch(&mut self.channels, fresh, &r.board);
+        self.watch(starts_afresh(e, r.answer));
+    }
+
+    // 02: "Levels right after an accepted power-up and after each later event count": the board is the record after an event. Before the
+    // first accepted power-up nothing counts.
+    fn watch(&mut self, fresh: bool)
+        ensures same_board { self.new.board ≡ self.old.board }
+        ensures watched { Watched fresh self.old.board (held self.old) (held self.new) }
+    {
+        let range = self.board.core.options.range;
+        let levels = &self.board.core.outputs.levels;
+        if fresh {
+            start_all(&mut self.channels, range, levels);
+            self.counts = true;
+            return;
+        }
+        if self.counts {
+            enter_all(&mut self.channels, range, levels);
+        }
     }
 }
 
@@ -41,42 +96,20 @@ fn starts_afresh(e: Event, answer: Result<Done, Refusal>) -> bool
     matches!(e, Event::PowerUp(_)) && accepted
 }
 
-// 02: "Levels right after an accepted power-up and after each later event count": b is the record after an event. Before the first
-// accepted power-up nothing counts.
-// Apart from `observe`, which with these two cases in its own body copies more at each event, and took a thirtieth longer.
-fn watch(channels: &mut Option<[Extremes; 20]>, fresh: bool, b: &Board)
-    ensures { Watched fresh b.now channels.old channels.new }
+// The twenty channels, one after another. By the place, here and below: there are two arrays, and behind a `zip` nothing is known of
+// what was written.
+fn start_all(channels: &mut [Extremes; 20], range: u32, levels: &[u16; 20])
+    ensures { AllStarted range levels.now channels.new }
 {
-    let range = b.core.options.range;
-    let levels = b.core.outputs.levels;
-    if fresh {
-        *channels = Some(start_all(range, levels));
-        return;
+    for (k, x) in channels.iter_mut().enumerate() {
+        *x = at_once(volts_of(range, levels[k]));
     }
-    let Some(x) = channels else {
-        return;
-    };
-    *x = enter_all(*x, range, levels);
 }
 
-fn start_all(range: u32, levels: [u16; 20]) -> [Extremes; 20]
-    ensures { AllStarted range levels result }
+fn enter_all(channels: &mut [Extremes; 20], range: u32, levels: &[u16; 20])
+    ensures { AllEntered channels.old range levels.now channels.new }
 {
-    levels.map(
-        |level|
-            ensures { result ≡ at_once (volts_of range level) }
-        { at_once(volts_of(range, level)) },
-    )
-}
-
-// The twenty channels, one after another: of two arrays, so `from_fn` by the place, since a `map` sees one.
-fn enter_all(channels: [Extremes; 20], range: u32, levels: [u16; 20]) -> [Extremes; 20]
-    ensures { AllEntered channels range levels result }
-{
-    from_fn(
-        |k|
-            requires { k < 20 }
-            ensures { result ≡ entered (get_or channels k no_channel) (volts_of range (get_or levels k 0)) }
-        { entered(channels[k], volts_of(range, levels[k])) },
-    )
+    for (k, x) in channels.iter_mut().enumerate() {
+        *x = entered(*x, volts_of(range, levels[k]));
+    }
 }

@@ -1,8 +1,11 @@
--- What is left ends as the file does (proofs/Ends.antt).
-use mathlib.Core.Path.{◌≡◌}
-use Rattle.file_rules.specs.File.{session}
-use Rattle.sizes.proofs.Ends.{told_end}
+-- The loop is on its way, and reads alone (proofs/Ends.antt).
+use Prim.Native.Nat.{◌-◌}
+use lib.ListN.{length}
+use Rattle.sizes.proofs.Ends.{Reading}
 use Rattle.sizes.proofs.replay.file_end.Given as goal
 
-abbrev pub invariant-loop-found : goal.invariant-loop-found
-invariant-loop-found l = told_end l.found-iterator ≡ (session l.s).end
+abbrev pub invariant-loop-after : goal.invariant-loop-after
+invariant-loop-after l = Reading l.s l.c
+
+abbrev pub decreases-loop-after : goal.decreases-loop-after
+decreases-loop-after l = length l.s - l.c.place

@@ -1,16 +1,12 @@
-use mathlib.Core.Path.{◌≡◌, sym, subst, ◌∙◌}
-use mathlib.Core.List.{[]}
-use lib.ListN.{length}
-use Prim.Native.Nat.{ℕ, ◌<◌}
-use borrow.Author.Rules.{rules}
-use Rattle.volts.specs.Watching.{no_channel}
-use Rattle.volts.proofs.Threes.{numbers_by_three}
+use native.Mathlib.Omega.{arith}
+use Rattle.volts.proofs.Threes.{filled_none, filled_next, filled_all}
 use Rattle.volts.proofs.exported.put.Goals as goal
 
+pub loop-k-init : goal.loop-k-init
+loop-k-init c = filled_none _ _ c.told-numbers c.told-channels
+
+pub loop-k-preserved : goal.loop-k-preserved
+loop-k-preserved c = filled_next c.loop-k.invariant c.loop-k-test.true _ _ (omega arith) c.copy_from_slice.ensures.after
+
 pub returns : goal.returns
-returns c =
-    let h = c.map-threes.ensures.items in
-    let long : length c.args.channels ≡ 20 = search rules in
-    c.copy_from_slice.ensures.after
-    ∙ c.as_flattened.ensures.value
-    ∙ numbers_by_three _ _ (h.long ∙ sym long) (λ k l. (h.at k no_channel [] (subst (λ (n : ℕ). k < n) long l)).2.met)
+returns c = filled_all c.loop-k.invariant (omega (arith, c.loop-k-test.false, c.loop-k.auto.k-end))

@@ -1,14 +1,20 @@
+use native.Mathlib.Nat.{le_refl}
+use mathlib.Core.Path.{◌∙◌}
 use native.Mathlib.Omega.{arith}
-use Rattle.volts.specs.Watching.{no_channel}
-use Rattle.volts.proofs.Calls.{called_at}
+use Rattle.volts.specs.Watching.{entered}
+use Rattle.volts.proofs.Entries.{upto_start, upto_next}
 use Rattle.volts.proofs.running.enter_all.Goals as goal
+
+pub loop-k-init : goal.loop-k-init
+loop-k-init c = upto_start _ _ c.told-channels
+
+pub loop-k-preserved : goal.loop-k-preserved
+loop-k-preserved c =
+    let l = c.loop-k in
+    upto_next _ _ l.k l.channels _ c.loop-k-test.true l.invariant
+    (c.entered.ensures ∙ (λ i. entered (l.invariant.left l.k (le_refl l.k) i) (c.volts_of.ensures i)))
 
 pub returns : goal.returns
 returns c =
-    let items = c.from_fn.ensures.items in
-    record {
-      twenty = items.long;
-      each = λ k l.
-          let h = called_at _ _ _ (λ i y q m. λ j. (m.met.0.0 j, m.met.0.1 j, m.met.0.2 j)) 0 20 items.each k no_channel (omega arith) (omega (arith, l)) in
-          h.1.met.1;
-    }
+    let u = c.loop-k.invariant in
+    record { twenty = u.long; each = λ j b. u.done j (omega (arith, b, c.loop-k-test.false)) }

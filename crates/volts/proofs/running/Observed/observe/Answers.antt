@@ -11,11 +11,12 @@ unfolding count_event
 returns c =
     let s = c.step-r.ensures in
     let e = c.args.e in
-    let fresh = c.starts_afresh-fresh.ensures ∙ ap (λ (a : Answer). is_power_up e && eqb a.refusal 0) s.answer in
+    let o = c.watch.ensures in
+    let fresh = c.starts_afresh.ensures ∙ ap (λ (a : Answer). is_power_up e && eqb a.refusal 0) s.answer in
     record {
-      board = s.board;
+      board = o.same_board ∙ s.board;
       memory = s.memory;
       channels = λ w h same.
-          c.watch.ensures w h (λ f. subst (SameRange w) (sym s.board) (same (sym fresh ∙ f)))
+          o.watched w h (λ f. subst (SameRange w) (sym s.board) (same (sym fresh ∙ f)))
           ∙ (λ i. seen_of (watched (fresh i) (s.board i) w));
     }

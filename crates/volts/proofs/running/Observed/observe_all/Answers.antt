@@ -1,13 +1,14 @@
 use mathlib.Core.Path.{sym, ap, ◌∙◌}
+use mathlib.Core.Bool.{true, false}
 use Rattle.std.proofs.Common.{Ok}
 use Rattle.std.proofs.lemmas.Result.{err_from_is_err_and}
 use Rattle.run.specs.Ahead.{ahead_of}
 use Rattle.run.proofs.Ways.{way_ends}
 use Rattle.volts.proofs.Tabling.{running_start, running_on, running_refused, running_over}
-use Rattle.volts.proofs.volts.Goals as goal
+use Rattle.volts.proofs.running.Observed.observe_all.Goals as goal
 
 pub loop-e-init : goal.loop-e-init
-loop-e-init c = running_start _ _ _ c.unpowered.ensures.told
+loop-e-init c = running_start _ _ _ c.requires.off c.requires.empty
 
 pub returns-in_err-e : goal.returns-in_err-e
 returns-in_err-e c =
@@ -24,6 +25,10 @@ loop-e-preserved c =
     let o = c.observe in
     running_on c.loop-e.invariant _ _ _ _ (sym c.next.ensures.told ∙ ap ahead_of (c.in_ok-e.was ∙ ap Ok c.in-Some.is)) o.ensures o.auto.memory
 
-pub returns : goal.returns
-returns c =
-    rw c.ok_or.ensures.value (running_over c.loop-e.invariant (sym c.next.ensures.told ∙ ap ahead_of (c.in_ok-e.was ∙ ap Ok c.in_default.is)))
+pub returns-then-self : goal.returns-then-self
+returns-then-self c =
+    running_over c.loop-e.invariant true c.if-self.true (sym c.next.ensures.told ∙ ap ahead_of (c.in_ok-e.was ∙ ap Ok c.in_default.is))
+
+pub returns-else-self : goal.returns-else-self
+returns-else-self c =
+    running_over c.loop-e.invariant false c.if-self.false (sym c.next.ensures.told ∙ ap ahead_of (c.in_ok-e.was ∙ ap Ok c.in_default.is))

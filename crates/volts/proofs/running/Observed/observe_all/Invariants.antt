@@ -2,10 +2,10 @@
 use Prim.Native.Nat.{◌-◌}
 use lib.ListN.{length}
 use Rattle.volts.proofs.Tabling.{Running}
-use Rattle.volts.proofs.volts.Given as goal
+use Rattle.volts.proofs.running.Observed.observe_all.Given as goal
 
 abbrev pub invariant-loop-e : goal.invariant-loop-e
-invariant-loop-e l = Running l.s l.initial.memory l.memory l.seen l.c
+invariant-loop-e l = Running l.s l.initial.memory l.memory l.self l.c
 
 abbrev pub decreases-loop-e : goal.decreases-loop-e
 decreases-loop-e l = length l.s - l.c.place
