@@ -10,14 +10,14 @@ use crate::misfit::{Misfit, status};
 use crate::numbers::{answer_row, figures_row};
 use board::step;
 use rates::rate;
-use rows::{ROW_LONG, board_at, row_of};
+use rows::{ROW_LONG, board_at, put_board};
 
 mod events;
 mod misfit;
 mod numbers;
 
 // 01: "the given record comes back": a refused event leaves the row alone, and does not write it anew.
-// The lengths of answer and figures are tests of their own, no array types: a test of a wrong length is refused by numbers so.
+// The lengths of row, answer and figures are tests of their own, no array types: a test of a wrong length is refused by numbers so.
 fn event_called(
     row: &mut [u32],
     memory: &mut [u32],
@@ -26,9 +26,10 @@ fn event_called(
 ) -> Result<(), Misfit>
     ensures { Called row.old memory.old event.now answer.old (status_number result) row.new memory.new answer.new }
 {
-    let Some(row) = row.as_mut_array() else {
+    let other = row.len() != ROW_LONG;
+    if other {
         return Err(Misfit::Record);
-    };
+    }
     let Some(numbers) = event.as_array() else {
         return Err(Misfit::Event);
     };
@@ -41,7 +42,8 @@ fn event_called(
     answer.copy_from_slice(&answer_row(reply.answer));
     let done = reply.answer.is_ok();
     if done {
-        *row = row_of(reply.board);
+        // a row of another length was told above
+        let _ = put_board(reply.board, row);
     }
     Ok(())
 }

@@ -3,4 +3,5 @@ pub mod FromFn
 pub mod RowLevels
 pub mod Rows
 pub mod Casts
+pub mod Stores
 pub mod Unique

@@ -6,6 +6,7 @@ ghost use Rattle.rows.specs.Promises.{told_of, Put};
 
 pub use crate::places::ROW_LONG;
 use crate::reading::board_in;
+use crate::writing::put_row;
 pub use crate::writing::row_of;
 use rules::Board;
 
@@ -34,6 +35,6 @@ pub fn put_board(b: Board, row: &mut [u32]) -> Result<(), WrongLength>
     let Some(row) = row.as_mut_array() else {
         return Err(WrongLength);
     };
-    *row = row_of(b);
+    put_row(b, row);
     Ok(())
 }

@@ -1,6 +1,8 @@
 // A board record as a row: its fields in the order of their places, and the levels last.
 ghost use Rattle.std.specs.Prelude.{◌≡◌};
+ghost use Rattle.std.proofs.lemmas.List.Edits.{sets};
 ghost use Rattle.rules.specs.Told.{Told};
+ghost use Rattle.rows.specs.Places as places;
 ghost use Rattle.rows.specs.Writing.{fields_row, board_row};
 
 use crate::places::{LEVEL_COUNT, LEVELS, ROW_LONG};
@@ -51,18 +53,28 @@ fn fields_of(b: Board) -> [u32; LEVELS]
     ]
 }
 
-fn wide(levels: [u16; LEVEL_COUNT]) -> [u32; LEVEL_COUNT]
-    ensures { result ≡ levels }
+// By place: `map` of an array makes an `Option` of each level, and an event of a host took half as long again.
+fn put_levels(levels: [u16; LEVEL_COUNT], row: &mut [u32; ROW_LONG])
+    ensures { row.new ≡ sets row.old places.levels levels }
 {
-    levels.map(u32::from)
+    for i in 0..LEVEL_COUNT {
+        row[LEVELS + i] = u32::from(levels[i]);
+    }
 }
 
-// The row of a record; its levels stand last.
+// The row of a record, written where it stands; its levels stand last.
+pub(crate) fn put_row(b: Board, row: &mut [u32; ROW_LONG])
+    ensures { row.new ≡ board_row b }
+{
+    row[..LEVELS].copy_from_slice(&fields_of(b));
+    put_levels(b.core.outputs.levels, row);
+}
+
+// The same, for a caller that has no row yet.
 pub fn row_of(b: Board) -> [u32; ROW_LONG]
     ensures { Told (board_row b) result }
 {
     let mut row = [0; ROW_LONG];
-    row[..LEVELS].copy_from_slice(&fields_of(b));
-    row[LEVELS..].copy_from_slice(&wide(b.core.outputs.levels));
+    put_row(b, &mut row);
     row
 }

@@ -14,4 +14,4 @@ pub returns : goal.returns
 unfolding row_written
 returns c =
     let yes = eq-eqb _ _ c.in-Some.ensures.cases.long in
-    record { understood = sym yes; left = rw yes c.row_of.ensures.told }
+    record { understood = sym yes; left = rw yes c.put_row.ensures }
