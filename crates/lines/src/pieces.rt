@@ -118,7 +118,20 @@ pub(crate) fn put_small(out: &mut [u8], at: usize, n: u32) -> usize
     put_two_digits(out, p, n - 100 * high)
 }
 
-// A number that mostly has more than one digit, four at a time: ten are two, four and four.
+// A number of at most six digits.
+pub(crate) fn put_middle(out: &mut [u8], at: usize, n: u32) -> usize
+    requires { (at + 6 ≤ length out.old) × (n < 1000000) }
+    ensures { Piece out.old at (decimal_in 5 n) out.new result }
+{
+    if n < 10000 {
+        return put_small(out, at, n);
+    }
+    let p = put_tens(out, at, n / 10000);
+    put_four_digits(out, p, n)
+}
+
+// A number that mostly has more than one digit, four at a time: ten are two, four and four. Not by itself again: that is no straight line,
+// and is not worked into a line (docs/PERFORMANCE.md, item 1).
 // Tried: `itoa`, which prints into a buffer of its own to be copied from: a number alone takes three quarters of the time of a whole line so,
 // and misses the bar, which is the time of this form.
 pub(crate) fn put_long(out: &mut [u8], at: usize, n: u32) -> usize
@@ -128,7 +141,7 @@ pub(crate) fn put_long(out: &mut [u8], at: usize, n: u32) -> usize
     if n < 10000 {
         return put_small(out, at, n);
     }
-    let p = put_long(out, at, n / 10000);
+    let p = put_middle(out, at, n / 10000);
     put_four_digits(out, p, n)
 }
 

@@ -4,4 +4,5 @@ pub mod Walking
 pub mod Answers
 pub mod Listings
 pub mod Unique
+pub mod AtHand
 pub mod AtOnce

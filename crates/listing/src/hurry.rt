@@ -1,9 +1,9 @@
 // Loads and ticks, one after another: a loop of its own, so that what they do not change stays at hand. The levels, the core and the
 // ring stand in locals, so that an event changes only what it must; the levels of the core are those of the start, and count for nothing.
-ghost use Rattle.std.specs.Prelude.{◌≤◌, ◌≡◌, IfSome, true, length};
+ghost use Rattle.std.specs.Prelude.{◌≤◌, ◌≡◌, length};
 ghost use Rattle.rules.specs.Clocks.{fate_number};
-ghost use Rattle.run.specs.Ahead.{Found, ahead_of};
-ghost use Rattle.listing.specs.Shortcuts.{common_event, quick};
+ghost use Rattle.run.specs.Ahead.{ahead_of};
+ghost use Rattle.listing.specs.Shortcuts.{at_hand};
 ghost use Rattle.listing.specs.Draft.{draft, Fair, Walked};
 
 use crate::parts::with_levels;
@@ -24,12 +24,9 @@ pub(crate) struct Reached {
 
 // The event ahead and the cursor after it, if it is one that can be done at once.
 pub(crate) fn ready(b: Board, d: u32, ahead: Ahead) -> Option<(Common, Cursor)>
-    ensures { IfSome result (λ x. (ahead_of ahead ≡ Found (common_event x.0) x.1) × (quick b d x.0 ≡ true)) }
+    ensures { result ≡ at_hand b d (ahead_of ahead) }
 {
-    let Ok(Some((event, after))) = ahead else {
-        return None;
-    };
-    let common = common_of(event)?;
+    let (common, after) = common_of(ahead)?;
     if quick(b, d, common) {
         Some((common, after))
     } else {

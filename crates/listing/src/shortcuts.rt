@@ -1,15 +1,17 @@
 // The commonest events of a session, a load that is stored and a tick that is accepted, as the few parts of the board that they
 // change: the loop over a session then need not hand the whole record to `step` and back.
-ghost use Rattle.std.specs.Prelude.{◌≡◌, IfSome, true};
+ghost use Rattle.std.specs.Prelude.{◌≡◌, true};
 ghost use Rattle.rules.specs.Told.{Told};
+ghost use Rattle.run.specs.Ahead.{ahead_of};
 ghost use Rattle.record.specs.Capped.{capped_board};
 ghost use Rattle.board.specs.Promises.{Stepped};
-ghost use Rattle.listing.specs.Shortcuts.{common_event, takes, ticks, quick, board_with, reply_of, InRun};
+ghost use Rattle.listing.specs.Shortcuts.{common_event, common_of, takes, ticks, quick, board_with, reply_of, InRun};
 ghost use Rattle.rules.specs.Record.{depth, state_of};
 
 use channels::serve;
 use moves::{Frame, deal, load};
 use rules::{Board, Core, Event, Fate, Signal};
+use run::{Ahead, Cursor};
 use status::{closed, is_full, tick_accepted};
 
 // A load, that is a write of the value to 18h, or a tick.
@@ -19,16 +21,23 @@ pub(crate) enum Common {
     Tick,
 }
 
-// Which of them an event is, if it is one.
-pub(crate) fn common_of(e: Event) -> Option<Common>
-    ensures { IfSome result (λ x. e ≡ common_event x) }
+// Which of them stands ahead, if it is one, and the cursor after it.
+pub(crate) fn common_of(ahead: Ahead) -> Option<(Common, Cursor)>
+    ensures { result ≡ common_of (ahead_of ahead) }
 {
-    match e {
-        Event::Write {
-            offset: 0x18,
-            value,
-        } => Some(Common::Load(value)),
-        Event::Signal(Signal::Tick) => Some(Common::Tick),
+    match ahead {
+        Ok(
+            Some(
+                (
+                    Event::Write {
+                        offset: 0x18,
+                        value,
+                    },
+                    after,
+                ),
+            ),
+        ) => Some((Common::Load(value), after)),
+        Ok(Some((Event::Signal(Signal::Tick), after))) => Some((Common::Tick, after)),
         _ => None,
     }
 }

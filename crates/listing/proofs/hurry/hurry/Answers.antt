@@ -1,12 +1,14 @@
 use mathlib.Core.Path.{refl, sym, subst, ◌∙◌}
 use native.Mathlib.Omega.{arith}
 use Rattle.rules.specs.declared.Core.{Core}
+use Rattle.run.specs.Ahead.{ahead_of}
 use Rattle.run.proofs.Ways.{way_ends}
 use Rattle.lines.proofs.Printing.{printed_piece}
 use Rattle.listing.specs.declared.hurry.Reached.{Reached}
 use Rattle.listing.specs.Shortcuts.{board_as, reply_of}
 use Rattle.listing.specs.Draft.{board_now, draft, Walked}
 use Rattle.listing.proofs.Walking.{walked_start, walked_then, walked_on, line_room, number_small}
+use Rattle.listing.proofs.AtHand.{hand_known}
 use Rattle.listing.proofs.hurry.hurry.Goals as goal
 
 pub loop-common-init : goal.loop-common-init
@@ -29,7 +31,7 @@ returns c =
 
 pub at_once-change-requires : goal.at_once-change-requires
 at_once-change-requires c =
-    (record { told = c.depth-d.ensures.told }, c.in-Some.ensures.1, c.loop-common.invariant.2.fair.sound)
+    (record { told = c.depth-d.ensures.told }, (hand_known _ _ (ahead_of c.next.result) (c.in-Some.common, c.in-Some.after) c.in-Some.ensures).1, c.loop-common.invariant.2.fair.sound)
 
 pub overflow_add-number : goal.overflow_add-number
 overflow_add-number c =
@@ -39,7 +41,7 @@ overflow_add-number c =
 
 pub loop-common-smaller : goal.loop-common-smaller
 loop-common-smaller c =
-    way_ends c.args.s.now c.loop-common.cursor _ _ (sym c.next.ensures.told ∙ c.in-Some.ensures.0)
+    way_ends c.args.s.now c.loop-common.cursor _ _ (sym c.next.ensures.told ∙ (hand_known _ _ (ahead_of c.next.result) (c.in-Some.common, c.in-Some.after) c.in-Some.ensures).0)
 
 pub loop-common-preserved : goal.loop-common-preserved
 loop-common-preserved c =
@@ -47,7 +49,7 @@ loop-common-preserved c =
     let l = c.loop-common in
     let f = l.invariant.2.fair in
     let now : Reached = record { cursor = l.cursor; board = board_now a.start.board l.core l.levels l.ring; at = l.at; number = l.number } in
-    let stood = sym c.next.ensures.told ∙ c.in-Some.ensures.0 in
+    let stood = sym c.next.ensures.told ∙ (hand_known _ _ (ahead_of c.next.result) (c.in-Some.common, c.in-Some.after) c.in-Some.ensures).0 in
     let line = printed_piece (rw c.fate_number-fate.ensures at c.put_done-at.ensures) (line_room _ _ now _ _ f) in
     let reply = reply_of (board_as a.start.board l.core l.ring) c.at_once-change.result c.at_once-change.new.levels in
     let on = walked_on a.s.now l.cursor now l.memory l.out f _ _ stood reply _ _ _ c.at_once-change.ensures line in

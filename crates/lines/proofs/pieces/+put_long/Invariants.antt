@@ -1,5 +1,0 @@
--- Each call has four digits less to write.
-use Rattle.lines.proofs.pieces.+put_long.Given as goal
-
-abbrev pub decreases-put_long : goal.decreases-put_long
-decreases-put_long l = l.n
