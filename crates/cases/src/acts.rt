@@ -20,7 +20,6 @@
 use crate::desk::Desk;
 use crate::extract::Group;
 use crate::{endings, figures, print, sheet};
-use std::alloc::{AllocError, Global};
 use std::io;
 
 #[derive(Drop)]
@@ -34,7 +33,7 @@ pub(crate) enum Act {
     Number(u32),
     Memory(u32),
     Figures,
-    Run(Vec<u8>),
+    Run,
     Put([u32; 6]),
     Cut(u32),
     Write { room: u32, place: u32 },
@@ -43,32 +42,10 @@ pub(crate) enum Act {
     Tell(u32),
 }
 
-// The numbers of an act, in the six places that it has for them. A longer list goes on from the first place, and after the first
-// number and sixteen more from the second.
-fn places(numbers: &[u32]) -> [u32; 6] {
-    let mut six = [0; 6];
-    if let [first, rest @ ..] = numbers {
-        six[0] = *first;
-        for sixteen in rest.chunks(16) {
-            for (at, n) in sixteen.iter().enumerate() {
-                six[(at + 1) % 6] = *n;
-            }
-        }
-    }
-    six
-}
-
-// A session file has its bytes in sixteens, of which the last counts.
-fn file(alloc: Global, numbers: &[u32]) -> Result<Vec<u8>, AllocError> {
-    let sixteen = numbers.chunks(16).last().unwrap_or(&[]);
-    sixteen.iter().map(|n| (*n % 256) as u8).collect(alloc)
-}
-
 // The act of a letter and numbers. A letter that opens no act runs a session file.
-pub(crate) fn act_of(alloc: Global, letter: u8, numbers: &[u32]) -> Result<Act, AllocError> {
-    let six = places(numbers);
+pub(crate) fn act_of(letter: u8, six: [u32; 6]) -> Act {
     let [a, b, ..] = six;
-    Ok(match letter {
+    match letter {
         b'U' => Act::Unpowered,
         b'L' => Act::Lent(a),
         b'S' => Act::Set { place: a, value: b },
@@ -84,18 +61,18 @@ pub(crate) fn act_of(alloc: Global, letter: u8, numbers: &[u32]) -> Result<Act, 
         b'G' => Act::Group(Group::from(six)),
         b'B' => Act::Bytes,
         b'T' => Act::Tell(a),
-        _ => Act::Run(file(alloc, numbers)?),
-    })
+        _ => Act::Run,
+    }
 }
 
 impl Desk {
-    pub(crate) fn act(&mut self, rt: &HostRuntime, act: Act) -> io::Result<()> {
+    pub(crate) fn act(&mut self, rt: &impl Print, act: Act) -> io::Result<()> {
         match act {
-            Act::Unpowered => *self = Desk::new(rt.alloc()),
+            Act::Unpowered => *self = Desk::new(),
             Act::Lent(entries) => self.lent = entries,
             Act::Set { place, value } => self.set(place, value),
             Act::Event(event) => self.play(&event),
-            Act::Put(row) => self.put(&row)?,
+            Act::Put(row) => self.put(&row),
             Act::Cut(n) => self.cut(n),
             Act::Write { room, place } => self.write(rt, room, place)?,
             Act::Group(group) => self.extract(rt, group)?,
@@ -106,7 +83,10 @@ impl Desk {
             Act::Figures => figures::print_figures(rt, &self.row)?,
             Act::Bytes => print::fields(rt, &self.output)?,
             Act::Tell(place) => sheet::print_row(rt, &self.output, place)?,
-            Act::Run(file) => endings::print_ending(rt, file.as_slice())?,
+            Act::Run => {
+                let n = self.count.min(self.bytes.len());
+                endings::print_ending(rt, &self.bytes[..n])?;
+            }
         }
         Ok(())
     }

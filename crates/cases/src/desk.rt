@@ -1,5 +1,4 @@
-// The desk at which a case is worked: a board, and what has been read of the line.
-use std::alloc::Global;
+// The desk at which a case is worked: a board, and what has been read of the line. There is fixed room for all of it.
 
 #[derive(Drop)]
 pub(crate) struct Desk {
@@ -11,18 +10,22 @@ pub(crate) struct Desk {
     // By which number the last event was refused, and what it read, as hosts have them.
     pub(crate) refusal: u32,
     pub(crate) register: u32,
-    // The act that is being read: its letter, its numbers so far, and the one whose digits are being read.
+    // The act that is being read: its letter; its numbers so far, in the six places that it has for them, and as the bytes of a file; how
+    // many there are; and the one whose digits are being read.
     pub(crate) letter: u8,
-    pub(crate) numbers: Vec<u32>,
+    pub(crate) numbers: [u32; 6],
+    pub(crate) bytes: [u8; 16],
+    pub(crate) count: usize,
     pub(crate) number: u32,
-    // Rows for the writer, and its output.
-    pub(crate) slice: Vec<u32>,
+    // Rows for the writer, how many numbers of them there are, and its output.
+    pub(crate) slice: [u32; 24],
+    pub(crate) held: usize,
     pub(crate) output: [u8; 40],
 }
 
 impl Desk {
     // An unpowered board. It is lent 8 entries of memory, the least depth, and they have values that no load stores.
-    pub(crate) fn new(alloc: Global) -> Desk {
+    pub(crate) fn new() -> Desk {
         Desk {
             row: [0; 55],
             memory: [7000000; 16384],
@@ -30,9 +33,12 @@ impl Desk {
             refusal: 99,
             register: 99,
             letter: b'R',
-            numbers: Vec::new(alloc),
+            numbers: [0; 6],
+            bytes: [0; 16],
+            count: 0,
             number: 0,
-            slice: Vec::new(alloc),
+            slice: [0; 24],
+            held: 0,
             output: [238; 40],
         }
     }

@@ -6,29 +6,32 @@ use std::io;
 impl Desk {
     fn begin_act(&mut self, letter: u8) {
         self.letter = letter;
-        self.numbers.clear();
+        self.count = 0;
+        self.numbers = [0; 6];
     }
 
-    fn end_number(&mut self) -> io::Result<()> {
+    // A longer list goes on from the first place, and after the first number and sixteen more from the second; as bytes, in sixteens.
+    fn end_number(&mut self) {
         let n = self.number;
+        let count = self.count;
+        self.numbers[count % 6] = n;
+        self.bytes[count % 16] = (n % 256) as u8;
+        self.count = count % 16 + 1;
         self.number = 0;
-        self.numbers.push(n)?;
-        Ok(())
     }
 
-    fn end_act(&mut self, rt: &HostRuntime) -> io::Result<()> {
-        let act = act_of(rt.alloc(), self.letter, self.numbers.as_slice())?;
-        self.act(rt, act)
+    fn end_act(&mut self, rt: &impl Print) -> io::Result<()> {
+        self.act(rt, act_of(self.letter, self.numbers))
     }
 
     // An act is a word with a capital, and a full stop or its numbers, as `Answer.` and `Set(1, 3)`. Small letters and blanks are for the
     // reader, between digits too, and a number goes as far as 4,294,967,289, and then on from less: `parse` knows neither.
-    fn read_char(&mut self, rt: &HostRuntime, c: u8) -> io::Result<()> {
+    fn read_char(&mut self, rt: &impl Print, c: u8) -> io::Result<()> {
         match c {
             b'0'..=b'9' => self.number = self.number % 429496729 * 10 + u32::from(c - b'0'),
-            b',' => self.end_number()?,
+            b',' => self.end_number(),
             b')' => {
-                self.end_number()?;
+                self.end_number();
                 self.end_act(rt)?;
             }
             b'.' => self.end_act(rt)?,
@@ -39,7 +42,7 @@ impl Desk {
         Ok(())
     }
 
-    pub(crate) fn read(&mut self, rt: &HostRuntime, line: &[u8]) -> io::Result<()> {
+    pub(crate) fn read(&mut self, rt: &impl Print, line: &[u8]) -> io::Result<()> {
         let colon = line.iter().position(|c| *c == b':');
         let (name, acts) = line.split_at(colon.unwrap_or(line.len()));
         rt.write_all(name)?;

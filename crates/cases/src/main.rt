@@ -16,8 +16,8 @@ mod line;
 mod print;
 mod sheet;
 
-fn work(rt: &HostRuntime, text: &[u8]) -> io::Result<()> {
-    let mut desk = Desk::new(rt.alloc());
+fn work(rt: &impl Print, text: &[u8]) -> io::Result<()> {
+    let mut desk = Desk::new();
     for line in text.split_inclusive(|c| *c == b'\n') {
         desk.read(rt, line)?;
     }

@@ -8,24 +8,23 @@ use writer::WriteRefusal;
 
 impl Desk {
     // A row joins the slice; there is room for four.
-    pub(crate) fn put(&mut self, row: &[u32; 6]) -> io::Result<()> {
-        let held = self.slice.len() % 19;
-        self.slice.truncate(held);
-        self.slice.extend_from_slice(row)?;
-        Ok(())
+    pub(crate) fn put(&mut self, row: &[u32; 6]) {
+        let held = self.held % 19;
+        self.slice[held..held + 6].copy_from_slice(row);
+        self.held = held + 6;
     }
 
     // The slice without its last numbers.
     pub(crate) fn cut(&mut self, n: u32) {
-        let held = self.slice.len();
-        self.slice.truncate(held.saturating_sub(n as usize));
+        self.held = self.held.saturating_sub(n as usize);
     }
 
     // The slice is written into an output of so many bytes, from a place on.
     pub(crate) fn write(&mut self, rt: &impl Print, room: u32, place: u32) -> io::Result<()> {
         let mut output = [238; 40];
         let room = (room % 41) as usize;
-        let outcome = writer::write(self.slice.as_slice(), &mut output[..room], place as usize);
+        let held = self.held.min(self.slice.len());
+        let outcome = writer::write(&self.slice[..held], &mut output[..room], place as usize);
         self.output = output;
         print_outcome(rt, outcome)
     }

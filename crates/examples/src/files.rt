@@ -1,21 +1,30 @@
 // Files of the working folder, read whole.
 use crate::faults::Wrong;
-use std::io::Read;
+use console::read_all;
 use std::{fs, io};
 
-// One that is longer than 65,536 bytes counts as failed.
-fn whole(rt: &HostRuntime, name: &str, ending: &str) -> io::Result<Vec<u8>> {
+// One that is longer than 65,536 bytes counts as failed: there is room for one byte more, by which it is known.
+fn whole<'a>(
+    rt: &HostRuntime,
+    name: &str,
+    ending: &str,
+    buf: &'a mut [u8; 65537],
+) -> io::Result<&'a [u8]> {
     let path = format!(in rt.alloc(); "{name}{ending}")?;
-    let mut bytes = Vec::new(rt.alloc());
-    let file = fs::open(rt, path.as_str())?;
-    file.take(65537).read_to_end(&mut bytes)?;
-    if 65536 < bytes.len() {
+    let mut file = fs::open(rt, path.as_str())?;
+    let n = read_all(&mut file, buf)?;
+    if 65536 < n {
         return Err(io::Error::other("longer than 65,536 bytes"));
     }
-    Ok(bytes)
+    Ok(&buf[..n])
 }
 
 // The file of this name and ending.
-pub(crate) fn read(rt: &HostRuntime, name: &str, ending: &'static str) -> Result<Vec<u8>, Wrong> {
-    whole(rt, name, ending).map_err(|_| Wrong::Unread(ending))
+pub(crate) fn read<'a>(
+    rt: &HostRuntime,
+    name: &str,
+    ending: &'static str,
+    buf: &'a mut [u8; 65537],
+) -> Result<&'a [u8], Wrong> {
+    whole(rt, name, ending, buf).map_err(|_| Wrong::Unread(ending))
 }

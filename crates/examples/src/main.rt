@@ -40,20 +40,21 @@ fn play(text: &[u8], expected: &[u8]) -> Result<(), Wrong> {
 
 // NAME.hex against NAME.txt
 fn play_files(rt: &HostRuntime, name: &str) -> Result<(), Wrong> {
-    let text = read(rt, name, ".hex")?;
-    let expected = read(rt, name, ".txt")?;
-    play(text.as_slice(), expected.as_slice())
+    let (mut text, mut expected) = ([0u8; 65537], [0u8; 65537]);
+    let text = read(rt, name, ".hex", &mut text)?;
+    let expected = read(rt, name, ".txt", &mut expected)?;
+    play(text, expected)
 }
 
-// The blocks of a document: those of bytes, joined, are a session, and the one of a listing is its listing. A document counts as unread
-// too where there is no memory for its blocks.
+// The blocks of a document: those of bytes, joined, are a session, and the one of a listing is its listing.
 fn play_document(rt: &HostRuntime, name: &str) -> Result<(), Wrong> {
-    let doc = read(rt, name, ".md")?;
-    let text = blocks(rt.alloc(), doc.as_slice(), b"```hex").map_err(|_| Wrong::Unread(".md"))?;
-    let expected = blocks(rt.alloc(), doc.as_slice(), b"```listing").map_err(|_| Wrong::Unread(
-        ".md",
-    ))?;
-    play(text.as_slice(), expected.as_slice())
+    let mut doc = [0u8; 65537];
+    let doc = read(rt, name, ".md", &mut doc)?;
+    let (mut text, mut expected) = ([0u8; 65537], [0u8; 65537]);
+    play(
+        blocks(doc, b"```hex", &mut text),
+        blocks(doc, b"```listing", &mut expected),
+    )
 }
 
 fn say(rt: &impl Print, name: &str, outcome: Result<(), Wrong>) -> io::Result<()> {

@@ -27,8 +27,9 @@ fn say_word(rt: &impl Eprint, front: &[u8], rest: &[u8]) -> io::Result<()> {
     }
 }
 
-// The word at a place, of which the one part stands before it.
+// The word at a place, of which the one part stands before it. What stands behind it is looked at as far as it is said, and no further.
 fn say_word_at(rt: &impl Eprint, before: &[u8], behind: &[u8]) -> io::Result<()> {
+    let behind = &behind[..behind.len().min(24)];
     let front = before.rsplit(|c| ends_word(*c)).next();
     let rest = behind.split(|c| ends_word(*c)).next();
     say_word(rt, front.unwrap_or(before), rest.unwrap_or(behind))

@@ -13,7 +13,7 @@ mod decimals;
 mod print;
 
 // On a board with a depth of 8 values at most. The memory has values that no load stores: so what the run left there can be seen.
-fn play(rt: &HostRuntime, session: &[u8]) -> io::Result<()> {
+fn play(rt: &impl Print, session: &[u8]) -> io::Result<()> {
     let mut memory = [7000000u32; 8];
     print::table(rt, volts(session, &mut memory))?;
     print::memory(rt, &memory)
@@ -27,7 +27,7 @@ fn search(rt: &impl Print, session: &[u8]) -> io::Result<()> {
 }
 
 // A session from behind its `=`: its name, to the end of the line, and what it says.
-fn show(rt: &HostRuntime, text: &[u8]) -> io::Result<()> {
+fn show(rt: &impl Print, text: &[u8]) -> io::Result<()> {
     let end = text.iter().position(|c| *c == b'\n');
     let (name, said) = text.split_at(end.unwrap_or(text.len()));
     rt.write_all(b"=")?;
@@ -50,7 +50,7 @@ fn show(rt: &HostRuntime, text: &[u8]) -> io::Result<()> {
 }
 
 // What stands before the first `=` is for the reader.
-fn work(rt: &HostRuntime, text: &[u8]) -> io::Result<()> {
+fn work(rt: &impl Print, text: &[u8]) -> io::Result<()> {
     for session in text.split(|c| *c == b'=').skip(1) {
         show(rt, session)?;
     }

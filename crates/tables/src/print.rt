@@ -1,5 +1,5 @@
 // What the program writes of a session: the refusal, the channels that are not at positive zero throughout, and the memory.
-use crate::decimals::decimal;
+use crate::decimals::Decimal;
 use sizes::SizeRefusal;
 use std::io;
 use volt_rules::Extremes;
@@ -10,21 +10,18 @@ fn is_zero(x: f32) -> bool {
     (x == 0.0) & (0.0 < 1.0 / x)
 }
 
-fn channel(rt: &HostRuntime, k: usize, x: Extremes) -> io::Result<()> {
+fn channel(rt: &impl Print, k: usize, x: Extremes) -> io::Result<()> {
     if is_zero(x.lowest) & is_zero(x.highest) & is_zero(x.last) {
         return Ok(());
     }
-    let lowest = decimal(rt.alloc(), x.lowest)?;
-    let highest = decimal(rt.alloc(), x.highest)?;
-    let last = decimal(rt.alloc(), x.last)?;
+    let lowest = Decimal(x.lowest);
+    let highest = Decimal(x.highest);
+    let last = Decimal(x.last);
     println!(rt; "  channel {k} lowest {lowest} highest {highest} last {last}")
 }
 
 // Where the session is refused, each channel is at zero.
-pub(crate) fn table(
-    rt: &HostRuntime,
-    table: Result<[Extremes; 20], VoltRefusal>,
-) -> io::Result<()> {
+pub(crate) fn table(rt: &impl Print, table: Result<[Extremes; 20], VoltRefusal>) -> io::Result<()> {
     match table {
         Ok(channels) => {
             println!(rt; "  refusal 0")?;
