@@ -1,20 +1,25 @@
--- `put_bytes` meets its contract: a copy into the part of the output behind a place sets each of these bytes.
-use Prim.Native.Nat.{◌+◌}
-use mathlib.Core.Path.{refl, sym, ◌∙◌}
-use mathlib.Core.List.{append_assoc}
+use Prim.Native.Nat.{ℕ, ◌+◌}
+use mathlib.Core.Path.{◌≡◌, refl, subst}
+use native.Mathlib.Numerals.{add-one}
 use native.Mathlib.Omega.{arith}
-use lib.ListN.{length, take, drop}
-use Rattle.std.proofs.lemmas.List.Edits.{paste_all, sets-eq}
-use Rattle.std.proofs.lemmas.Slice.{put_mid-paste}
+use lib.ListN.{length}
+use lib.Seq.{take_all, take-suc}
+use Rattle.file_rules.specs.Pieces.{Piece}
+use Rattle.file_rules.proofs.Joined.{then}
 use Rattle.lines.proofs.pieces.put_bytes.Goals as goal
+
+pub loop-i-init : goal.loop-i-init
+loop-i-init c = record { place = omega arith; text = refl }
+
+pub loop-i-preserved : goal.loop-i-preserved
+loop-i-preserved c =
+    let l = c.loop-i in
+    let grown = take-suc c.args.text.now l.i 0 c.loop-i-test.true in
+    rw (add-one, grown) (then l.invariant (record { place = omega arith; text = refl }))
 
 pub returns : goal.returns
 returns c =
-    let a = c.args in
-    record {
-      place = refl;
-      text = put_mid-paste a.at _ a.out.now _ a.text.now (length a.text.now) c.copy_from_slice.ensures.after (omega arith) refl
-          ∙ paste_all a.out.now a.at a.text.now (length a.text.now) refl
-          ∙ sym (append_assoc (take a.at a.out.now) a.text.now (drop (a.at + length a.text.now) a.out.now))
-          ∙ sym (sets-eq a.text.now a.out.now a.at c.requires);
-    }
+    let l = c.loop-i in
+    let text = c.args.text.now in
+    let all : l.i ≡ length text = omega (arith, l.auto.i-end, c.loop-i-test.false) in
+    subst (λ (n : ℕ). Piece c.args.out.now c.args.at text l.out (c.args.at + n)) all (rw (take_all l.i text c.loop-i-test.false) at l.invariant)
