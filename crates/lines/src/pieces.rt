@@ -134,8 +134,8 @@ pub(crate) fn put_middle(out: &mut [u8], at: usize, n: u32) -> usize
     put_four_digits(out, p, n)
 }
 
-// A number that mostly has more than one digit, four at a time: ten are two, four and four. Not by itself again: that is no straight line,
-// and is not worked into a line (docs/PERFORMANCE.md, item 1).
+// A number that mostly has more than one digit, four at a time: ten are two, four and four. By `put_middle` and not by itself again
+// (docs/PERFORMANCE.md, item 1: numbers without recursion).
 // Tried: `itoa`, which prints into a buffer of its own to be copied from: a number alone takes three quarters of the time of a whole line so,
 // and misses the bar, which is the time of this form.
 pub(crate) fn put_long(out: &mut [u8], at: usize, n: u32) -> usize

@@ -96,8 +96,8 @@ fn starts_afresh(e: Event, answer: Result<Done, Refusal>) -> bool
     matches!(e, Event::PowerUp(_)) && accepted
 }
 
-// The twenty channels, one after another. By the place, here and below: there are two arrays, and behind a `zip` nothing is known of
-// what was written.
+// The twenty channels, one after another. By the place, here and below: there are two arrays, and the kit's guide says that of what is
+// written behind a `zip` nothing is known.
 fn start_all(channels: &mut [Extremes; 20], range: u32, levels: &[u16; 20])
     ensures { AllStarted range levels.now channels.new }
 {
